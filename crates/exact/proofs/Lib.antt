@@ -1,0 +1,10 @@
+pub mod Ring
+pub mod Integers
+pub mod Order
+pub mod Sums
+pub mod Near
+pub mod Floor
+pub mod Rounded
+pub mod Is
+pub mod Climb
+pub mod Apart

@@ -1,0 +1,1 @@
+// Exact fractions and their rounding: definitions in specs/, laws in proofs/, no code.

@@ -1,0 +1,67 @@
+-- Demand 3, the climbing rule, and the accuracy rule, of every card that none of its own reasons refuses.
+-- Assumes nothing.
+use mathlib.Core.Path.{_≡_, refl}
+use mathlib.Core.Logic.{_⊎_, inl, inr}
+use Prim.Native.Nat.{ℕ, _*_, _≤_, _<_}
+use native.Mathlib.Omega.{arith}
+use lib.IntN.{ℤ}
+use Rattle.exact.specs.Exact.{Exact, whole, _⊗_}
+use Rattle.exact.specs.Rounding.{lower}
+use Rattle.exact.proofs.Rounded.{rounding-laws}
+use Rattle.runoff.specs.declared.Card.{Card}
+use Rattle.runoff.specs.Lines.{Section, sectionOf, axis}
+use Rattle.runoff.specs.Rows.{row, rowOf, inUnits}
+use Rattle.runoff.specs.Refusal.{refusal}
+use Rattle.runoff.specs.Accepted.{addedOf}
+use Rattle.runoff.specs.Climbing.{ClimbingRule}
+use Rattle.runoff.specs.Accuracy.{Accurate, AccurateRow, AccuracyRule}
+use Rattle.runoff.proofs.Accepts.{accepted-rule}
+use Rattle.runoff.proofs.ExactClimb.{Turns, climbs}
+use Rattle.runoff.proofs.TabledClimb.{on-whole, tabled}
+use Rattle.runoff.proofs.Proper.{ProperLines, proper-lines}
+
+-- a unit of 1 or 10 is above 0
+some : {unit : ℕ} → (unit ≡ 1) ⊎ (unit ≡ 10) → 0 < unit
+some (inl e) = omega arith
+some (inr e) = omega arith
+
+module _ (card : Card) (passes : refusal card ≡ 0) where
+  turns : Turns (addedOf card) (sectionOf card)
+  turns =
+      let a = accepted-rule card .exactly .0 passes in
+      let z = accepted-rule card .sizes passes in
+      record {
+        wide = omega (arith, z .half-least);
+        crowned = omega (arith, z .crown-least);
+        turned = a .slope-least;
+        long = omega (arith, accepted-rule card .long passes);
+        steep = omega (arith, z .added-least);
+        gentle = a .added;
+      }
+
+  unit-some : 0 < card .unit
+  unit-some = some (accepted-rule card .exactly .0 passes .unit)
+
+  pub climbing-rule : ClimbingRule card
+  unfolding row
+  climbing-rule = record { exact = λ s t a b. climbs turns a b; tabled = tabled turns (card .unit) unit-some }
+
+  accurate : (x : Exact) → 0 < x .den → Accurate (card .unit) x (inUnits (card .unit) x)
+  accurate x p =
+      let laws = rounding-laws lower (1000 * card .unit) (omega (arith, unit-some)) in
+      record { fraction = p; nearest = laws .exists x p; half = laws .half x p }
+
+  pub accuracy-rule : AccuracyRule card
+  unfolding row
+  accuracy-rule d h =
+      let narrow = accepted-rule card .exactly .0 passes .shoulder in
+      let lines : ProperLines (sectionOf card) (whole d) = proper-lines turns (omega arith) (on-whole (sectionOf card) d h) in
+      record {
+        station = refl;
+        widening = accurate _ (omega (arith, lines .widening));
+        innerBrow = accurate _ (lines .innerBrow);
+        innerEdge = accurate _ (lines .innerEdge);
+        axis = accurate _ (omega arith);
+        outerEdge = accurate _ (lines .outerEdge);
+        outerBrow = accurate _ (lines .outerBrow);
+      }

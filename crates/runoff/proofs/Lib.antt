@@ -1,0 +1,16 @@
+pub mod Product
+pub mod Every
+pub mod Steps
+pub mod Clothoids
+pub mod Entries
+pub mod Turned
+pub mod Accepts
+pub mod RowPlaces
+pub mod Slopes
+pub mod Heights
+pub mod EdgePieces
+pub mod ExactClimb
+pub mod Proper
+pub mod TabledClimb
+pub mod ClimbingRule
+pub mod StarredReadings

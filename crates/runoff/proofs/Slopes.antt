@@ -1,0 +1,47 @@
+-- The outer slope at the station a/b in each stage, over one denominator.
+-- Assumes nothing.
+use mathlib.Core.Path.{_≡_, ap}
+use Prim.Native.Nat.{ℕ, _+_, _*_, _-_, _≤_, _<_}
+use native.Mathlib.Nat.{mul-pos, mul-le-mul-left}
+use native.Mathlib.Omega.{arith}
+use borrow.Author.Tests.{le-leb, lt-leb}
+use Rattle.exact.specs.Exact.{Exact, whole, minus, _⊖_}
+use Rattle.exact.proofs.Is.{Is, is-frac, is-whole, is-minus, is-one, is-as, is-net, is-scale, is-add, is-sub, is-mul, is-div, is-times, is-over, is-less, is-from-zero, is-yes, is-no}
+use Rattle.runoff.specs.Lines.{Section, joint, outerSlope}
+
+module _ (x : Section) {s : Exact} {a b : ℕ} (at : Is s a 0 b) where
+  pub even-is :
+      0 < x .L → 3 * x .L ≤ x .h * (x .p + x .v) →
+      Is (outerSlope x s) ((x .p + x .v) * a) (x .p * (x .L * b)) (x .L * b)
+  unfolding outerSlope
+  even-is l t =
+      let turn : Is (whole (x .v) ⊖ minus (x .p)) (x .p + x .v) 0 1 = is-net (is-sub (is-one (x .v)) (is-minus (x .p) 1 (omega arith))) (omega arith) in
+      let k = mul-pos l (at .over) in
+      rw (le-leb (3 * x .L) (x .h * (x .p + x .v)) t)
+      (is-net
+      (is-add (is-minus (x .p) (x .L * b) k) (is-as {a′ = (x .p + x .v) * a} {b′ = 0} (is-div (is-mul turn (is-from-zero at)) (is-from-zero (is-one (x .L))) l) k (omega arith)))
+      (omega arith))
+
+  module _ (two : x .h * (x .p + x .v) < 3 * x .L) where
+    pub first-is : 0 < x .h → 3 * a ≤ 2 * x .h * x .p * b → Is (outerSlope x s) (3 * a) (x .p * (x .h * b)) (x .h * b)
+    unfolding outerSlope
+    first-is h j =
+        rw (lt-leb (3 * x .L) (x .h * (x .p + x .v)) two, is-yes at (is-frac (2 * x .h * x .p) 3 (omega arith)) (omega arith))
+        (is-net (is-add (is-minus (x .p) (x .h * b) (mul-pos h (at .over))) (is-over (x .h) h (is-times 3 at))) (omega arith))
+
+    pub second-is :
+        x .p ≤ x .v → 2 * x .h * x .p < 3 * x .L → 2 * x .h * x .p * b < 3 * a →
+        Is (outerSlope x s)
+        (x .p * ((3 * x .L - 2 * x .h * x .p) * b) + (x .v - x .p) * (3 * a - 2 * x .h * x .p * b)) 0 ((3 * x .L - 2 * x .h * x .p) * b)
+    unfolding outerSlope
+    second-is turned before j =
+        let J = 2 * x .h * x .p in
+        let E = 3 * x .L - J in
+        let k : 0 < E * b = mul-pos (omega arith) (at .over) in
+        let joint-is = is-frac J 3 (omega arith) in
+        let turn = is-less turned (is-one (x .v)) (is-one (x .p)) in
+        let over : 0 < 3 * b = mul-pos (omega arith) (at .over) in
+        let past : Is (s ⊖ joint x) (3 * a - J * b) 0 (3 * b) = is-less (omega arith) (is-as at over (omega arith)) (is-as joint-is over (omega arith)) in
+        let run : Is (whole (x .L) ⊖ joint x) E 0 3 = is-less (omega arith) (is-as (is-one (x .L)) (omega arith) (omega arith)) joint-is in
+        rw (lt-leb (3 * x .L) (x .h * (x .p + x .v)) two, is-no at joint-is (omega arith))
+        (is-add (is-whole (x .p) (E * b) k) (is-as {a′ = (x .v - x .p) * (3 * a - J * b)} {b′ = 0} (is-div (is-mul turn past) run (omega arith)) k (omega arith)))

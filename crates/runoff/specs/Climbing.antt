@@ -1,0 +1,49 @@
+-- Demand 3, the climbing rule.
+-- Assumes nothing.
+use mathlib.Core.Path.{_≡_}
+use mathlib.Core.Logic.{_↔_, _⊎_}
+use Prim.Native.Nat.{ℕ, _*_, _≤_, _<_}
+use lib.IntN.{ℤ}
+use lib.Signed.{_≤ℤ_}
+use Rattle.exact.specs.Exact.{Exact, frac, whole, _⊕_, _⊖_, _⊗_, _≼_, _≺_, _≈_, distance}
+use Rattle.exact.specs.Rounding.{units}
+use Rattle.runoff.specs.declared.Card.{Card}
+use Rattle.runoff.specs.Lines.{Section, sectionOf, On, outerEdge, firstReached}
+use Rattle.runoff.specs.Rows.{rowOf}
+use Rattle.runoff.specs.Refusal.{refusal}
+use Rattle.runoff.specs.Accepted.{addedOf}
+
+-- the full slope equals the crown slope and both stations are at or past the point where it is first reached
+pub record Level (x : Section) (s t : Exact) : Type 0 where
+  pub same : x .v ≡ x .p
+  pub first : firstReached x ≼ s
+  pub second : firstReached x ≼ t
+
+-- the two exact outer-edge heights are fractions over numbers above 0; they are equal exactly when the stations are equal, or when the edge is level at both;
+-- otherwise the farther is higher, by at most the added slope times the distance
+pub record Climbs (added : ℕ) (x : Section) (s t : Exact) : Type 0 where
+  pub fractions : (0 < outerEdge x s .den) × (0 < outerEdge x t .den)
+  pub equal : (outerEdge x s ≈ outerEdge x t) ↔ ((s ≈ t) ⊎ Level x s t)
+  pub higher : s ≺ t → ¬ Level x s t → outerEdge x s ≺ outerEdge x t
+  pub gentle : s ≼ t → outerEdge x t ⊖ outerEdge x s ≼ whole added ⊗ (t ⊖ s)
+
+-- a tabled outer-edge height is, in micrometres, 1000 × unit × the outer-edge number of a row
+abbrev pub tabledHeight : ℕ → ℤ → Exact
+tabledHeight unit n = units (1000 * unit) n
+
+-- the tabled heights n at d and k at e, d not past e: each within half a unit of the exact one at its station;
+-- the later not lower than the earlier, nor higher by more than one unit plus the added slope times the distance
+pub record Tabled (added unit : ℕ) (x : Section) (d e : ℕ) (n k : ℤ) : Type 0 where
+  pub earlier : distance (outerEdge x (whole d)) (tabledHeight unit n) ≼ frac (1000 * unit) 2
+  pub later : distance (outerEdge x (whole e)) (tabledHeight unit k) ≼ frac (1000 * unit) 2
+  pub order : n ≤ℤ k
+  pub gentle : tabledHeight unit k ⊖ tabledHeight unit n ≼ whole (1000 * unit) ⊕ whole added ⊗ (whole e ⊖ whole d)
+
+-- THEOREM (proofs/ClimbingRule.antt): the climbing rule of every card that none of its own reasons refuses
+pub record ClimbingRule (card : Card) : Type 0 where
+  -- for any two stations from its start to the clothoid's end, fractions included
+  pub exact : (s t : Exact) → On (sectionOf card) s → On (sectionOf card) t → Climbs (addedOf card) (sectionOf card) s t
+  -- for the rows at any two stations
+  pub tabled :
+      (d e : ℕ) → d ≤ e → e ≤ card .clothoid →
+      Tabled (addedOf card) (card .unit) (sectionOf card) d e (rowOf card d .outerEdge) (rowOf card e .outerEdge)

@@ -1,0 +1,12 @@
+pub mod Words
+pub mod Profile
+pub mod Clothoid
+pub mod Lines
+pub mod Rows
+pub mod Refusal
+pub mod Table
+pub mod Runoff
+pub mod Accepted
+pub mod Climbing
+pub mod Accuracy
+pub mod Readings

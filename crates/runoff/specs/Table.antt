@@ -1,0 +1,29 @@
+-- Document 01, "What a turned-away card or book says": what a card and a lent table are answered, and the table afterwards.
+-- Assumes nothing.
+use mathlib.Core.Bool.{cond}
+use mathlib.Core.List.{List, _++_}
+use Prim.Native.Nat.{ℕ, _*_}
+use lib.Dec.{eqb}
+use lib.IntN.{ℤ}
+use lib.ListN.{length, drop}
+use Rattle.runoff.specs.declared.Card.{Card}
+use Rattle.runoff.specs.Rows.{rowCount, rows}
+use Rattle.runoff.specs.Refusal.{first, tests}
+
+-- an accepted card gives number 0 and the count of rows; a refused card gives its number and count 0
+pub record Reply : Type 0 where
+  pub number : ℕ
+  pub count : ℕ
+
+-- 1 to 11 in rising order, first one met; room is the length of the lent table
+unfoldable pub replyNumber : Card → ℕ → ℕ
+replyNumber card room = first (tests card room)
+
+unfoldable pub replyTo : Card → ℕ → Reply
+replyTo card room =
+    record { number = replyNumber card room; count = cond (eqb (replyNumber card room) 0) (rowCount card) 0 }
+
+-- accepted: the rows, and the numbers after the last row untouched; refused: the whole table untouched
+unfoldable pub tableAfter : Card → List ℤ → List ℤ
+tableAfter card table =
+    cond (eqb (replyNumber card (length table)) 0) (rows card ++ drop (7 * rowCount card) table) table

@@ -1,0 +1,20 @@
+-- The paper's words for comparing two whole numbers, as tests.
+-- Assumes nothing.
+use mathlib.Core.Bool.{Bool, not, _||_}
+use Prim.Native.Nat.{ℕ}
+use lib.Dec.{ltb, eqb}
+
+infix 40 _below_ _above_
+abbrev pub _below_ : ℕ → ℕ → Bool
+a below b = ltb a b
+
+abbrev pub _above_ : ℕ → ℕ → Bool
+a above b = ltb b a
+
+-- n is not from a to b
+abbrev pub outside : ℕ → ℕ → ℕ → Bool
+outside n a b = n below a || n above b
+
+-- n is neither a nor b
+abbrev pub neither : ℕ → ℕ → ℕ → Bool
+neither n a b = not (eqb n a || eqb n b)

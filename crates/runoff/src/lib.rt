@@ -1,0 +1,206 @@
+// The section rules of typical design 503-0-45: the check of a curve card, and the runoff that is made of an accepted one.
+mod conditions;
+mod tables;
+
+use crate::conditions::is_neither;
+use crate::conditions::is_outside;
+use crate::conditions::is_too_narrow;
+use crate::conditions::is_too_steep;
+use crate::conditions::is_too_wide;
+use crate::tables::CLOTHOIDS;
+use crate::tables::Profile;
+use crate::tables::added_slope;
+use crate::tables::longer;
+use crate::tables::profile_at;
+ghost use mathlib.Core.Path.{_≡_};
+ghost use Rattle.runoff.specs.Clothoid.{leastLength};
+ghost use Prim.Native.Nat.{_≤_};
+ghost use lib.ListN.{drop};
+ghost use Rattle.runoff.specs.Refusal.{first, testsBy, refusal};
+ghost use Rattle.runoff.specs.Runoff.{stagesOf, runoffOf, madeOf};
+ghost use Rattle.runoff.specs.Lines.{sectionBy};
+
+// A curve card: lengths in mm but the radius in metres, the slope in per mille.
+pub struct Card {
+    pub profile: u32,
+    pub terrain: u32,
+    pub radius: u32,
+    pub clothoid: u32,
+    pub full_slope: u32,
+    pub full_widening: u32,
+    pub step: u32,
+    pub unit: u32,
+}
+
+// How the outer slope turns: evenly, or in two stages whose joint is at num / den mm.
+pub enum Stages {
+    Even,
+    TwoStage { num: u64, den: u64 },
+}
+
+// The runoff of an accepted card: lengths in mm, slopes in per mille.
+pub struct Runoff {
+    pub stages: Stages,
+    pub half_width: u64,
+    pub shoulder_width: u64,
+    pub crown_slope: u64,
+    pub shoulder_slope: u64,
+    pub full_slope: u64,
+    pub full_widening: u64,
+    pub clothoid: u64,
+}
+
+// What a card is made into: its runoff, or the number of the reason that refuses it.
+pub enum Made {
+    Accepted(Runoff),
+    Refused(u32),
+}
+
+// The least length of a clothoid, in metres, by the radius in metres.
+pub fn least_length(radius: u32) -> u32
+    ensures { λ l. ⌜ l ≡ leastLength radius ⌝ }
+{
+    let mut before: u32 = 0;
+    let mut i: usize = 0;
+    while i < 20 {
+        let e = CLOTHOIDS[i];
+        let r = e.radius;
+        let l = e.length;
+        if radius == r {
+            return l;
+        }
+        if radius < r {
+            return longer(before, l);
+        }
+        before = l;
+        i += 1;
+    }
+    before
+}
+
+// 0 for an accepted card, else the number of the first of its own reasons, 1 to 10.
+pub fn check_card(card: Card) -> u32
+    ensures { λ r. ⌜ r ≡ refusal card ⌝ }
+{
+    let profile = card.profile;
+    let terrain = card.terrain;
+    if is_outside(profile, 1, 5) {
+        return 1;
+    }
+    if is_neither(terrain, 1, 2) {
+        return 2;
+    }
+    let p = profile_at(profile);
+    check_curve(p, card)
+}
+
+// The reasons from 3 on, of a card with the profile p.
+fn check_curve(p: Profile, card: Card) -> u32
+    ensures { λ r. ⌜ r ≡ first (drop 2 (testsBy p card)) ⌝ }
+{
+    let radius = card.radius;
+    let clothoid = card.clothoid;
+    let slope = card.full_slope;
+    let least_radius = p.least_radius;
+    let crown = p.crown_slope;
+    if is_outside(radius, least_radius, 2000) {
+        return 3;
+    }
+    let least = least_length(radius);
+    let shortest = 1000 * least;
+    if is_outside(clothoid, shortest, 300000) {
+        return 4;
+    }
+    if is_outside(slope, crown, 60) {
+        return 5;
+    }
+    check_section(p, card)
+}
+
+// The reasons from 6 on, of a card that passes reason 5.
+fn check_section(p: Profile, card: Card) -> u32
+    requires { ⌜ (p .«crown_slope» ≤ card .«full_slope») × (card .«full_slope» ≤ 60) ⌝ }
+    ensures { λ r. ⌜ r ≡ first (drop 5 (testsBy p card)) ⌝ }
+{
+    let terrain = card.terrain;
+    let radius = card.radius;
+    let clothoid = card.clothoid;
+    let slope = card.full_slope;
+    let widening = card.full_widening;
+    let step = card.step;
+    let unit = card.unit;
+    if is_too_wide(widening, radius) {
+        return 6;
+    }
+    if is_too_narrow(p, widening) {
+        return 7;
+    }
+    let added = added_slope(p, terrain);
+    if is_too_steep(p, added, slope, clothoid) {
+        return 8;
+    }
+    if is_outside(step, 1000, 20000) {
+        return 9;
+    }
+    if is_neither(unit, 1, 10) {
+        return 10;
+    }
+    0
+}
+
+// Even when h × (p + v) is at least 3 × L, else two-stage with the joint at 2 × h × p / 3.
+fn stages_of(p: Profile, card: Card) -> Stages
+    requires { ⌜ (p .«half_width» ≤ 3750) × (p .«crown_slope» ≤ 30) × (card .«full_slope» ≤ 60) ⌝ }
+    ensures { λ r. ⌜ r ≡ stagesOf (sectionBy p card) ⌝ }
+{
+    let half = p.half_width as u64;
+    let crown = p.crown_slope as u64;
+    let slope = card.full_slope as u64;
+    let clothoid = card.clothoid as u64;
+    let climb = half * (crown + slope);
+    let floor = 3 * clothoid;
+    if climb >= floor {
+        return Stages::Even;
+    }
+    let num = 2 * half * crown;
+    Stages::TwoStage { num, den: 3 }
+}
+
+// The runoff of an accepted card: whether it is even or two-stage is decided once.
+fn runoff_of(card: Card) -> Runoff
+    requires { ⌜ refusal card ≡ 0 ⌝ }
+    ensures { λ r. ⌜ r ≡ runoffOf card ⌝ }
+{
+    let profile = card.profile;
+    let p = profile_at(profile);
+    let half_width = p.half_width as u64;
+    let shoulder_width = p.shoulder_width as u64;
+    let crown_slope = p.crown_slope as u64;
+    let shoulder_slope = p.shoulder_slope as u64;
+    let full_slope = card.full_slope as u64;
+    let full_widening = card.full_widening as u64;
+    let clothoid = card.clothoid as u64;
+    let stages = stages_of(p, card);
+    Runoff {
+        stages,
+        half_width,
+        shoulder_width,
+        crown_slope,
+        shoulder_slope,
+        full_slope,
+        full_widening,
+        clothoid,
+    }
+}
+
+// The runoff of an accepted card, or the number that refuses it.
+pub fn make_runoff(card: Card) -> Made
+    ensures { λ r. ⌜ r ≡ madeOf card ⌝ }
+{
+    let number = check_card(card);
+    if number != 0 {
+        return Made::Refused(number);
+    }
+    let runoff = runoff_of(card);
+    Made::Accepted(runoff)
+}

@@ -7,7 +7,7 @@ use lib.IntN.{ℤ}
 use Rattle.exact.specs.Exact.{Exact, whole, frac, _⊕_, _⊖_, _≼_}
 use Rattle.exact.specs.Rounding.{units}
 use Rattle.exact.proofs.Ring.{ring}
-use Rattle.exact.proofs.Is.{Is, is-self, is-one, is-frac, is-sub, is-sum, is-diff, is-le, le-is}
+use Rattle.exact.proofs.Is.{is-self, is-one, is-frac, is-sub, is-sum, is-diff, is-le, le-is}
 
 -- over whole counts n and k, numbers x and y and a distance e
 farthest :

@@ -7,10 +7,10 @@ use native.Mathlib.Nat.{mul-pos, mul-le-mul-right, mul-lt-mul-of-pos-right, le-o
 use native.Mathlib.Decide.{decLe}
 use native.Mathlib.Omega.{arith}
 use lib.IntN.{ℤ, pos, negsuc, natAbs, _*ℤ_}
-use Rattle.exact.specs.Exact.{Exact, frac, whole, minus, _⊕_, _⊖_, _⊗_, _⊘_, _≼_, _≺_, atMost, greater}
+use Rattle.exact.specs.Exact.{Exact, frac, whole, minus, _⊕_, _⊖_, _⊗_, _⊘_, _≼_, _≺_, _≈_, atMost, greater}
 use Rattle.exact.proofs.Ring.{ring}
 use Rattle.exact.proofs.Integers.{up, dn, mul-parts, neg-up, neg-dn, abs-parts}
-use Rattle.exact.proofs.Order.{above, below, left, right, le-out, le-in, lt-out, lt-in, at-most-yes, at-most-no, clash}
+use Rattle.exact.proofs.Order.{above, below, left, right, le-out, le-in, lt-out, lt-in, eq-in, at-most-yes, at-most-no, clash}
 use Rattle.exact.proofs.Sums.{sum-parts, difference-parts}
 
 -- x is (a − b)/d, and both denominators are above 0
@@ -51,6 +51,9 @@ is-as {x} {a} {b} {d} {a′} {b′} {d′} f h e = record {
 pub is-net : {x : Exact} {a b d a′ b′ : ℕ} → Is x a b d → a + b′ ≡ a′ + b → Is x a′ b′ d
 is-net {d = d} f e = is-as f (f .over) (omega (arith, ap (λ (k : ℕ). k * d) e))
 
+pub is-natural : {x : Exact} {a b d : ℕ} → Is x a b d → b ≤ a → Is x (a - b) 0 d
+is-natural f h = is-net f (omega arith)
+
 pub is-scale : {x : Exact} {a b d : ℕ} (k : ℕ) → 0 < k → Is x a b d → Is x (a * k) (b * k) (d * k)
 is-scale k h f = is-as f (mul-pos (f .over) h) (omega arith)
 
@@ -70,12 +73,12 @@ module _ {x y : Exact} {a b a′ b′ d : ℕ} (f : Is x a b d) (g : Is y a′ b
     over = f .over;
   }
 
--- the first factor is not below zero
-module _ {x y : Exact} {a d a′ b′ d′ : ℕ} (f : Is x a 0 d) (g : Is y a′ b′ d′) where
-  mul-eq : (S : ℤ) (X X′ Y Y′ e e′ : ℕ) → up S + (X * Y′ + X′ * Y) ≡ X * Y + X′ * Y′ + dn S →
-      X * d + 0 * e ≡ a * e + X′ * d → Y * d′ + b′ * e′ ≡ a′ * e′ + Y′ * d′ →
-      up S * (d * d′) + a * b′ * (e * e′) ≡ a * a′ * (e * e′) + dn S * (d * d′)
-  mul-eq S X X′ Y Y′ e e′ k l m =
+module _ {x y : Exact} {a b d a′ b′ d′ : ℕ} (f : Is x a b d) (g : Is y a′ b′ d′) where
+  product :
+      (S : ℤ) (X X′ Y Y′ e e′ : ℕ) → up S + (X * Y′ + X′ * Y) ≡ X * Y + X′ * Y′ + dn S →
+      X * d + b * e ≡ a * e + X′ * d → Y * d′ + b′ * e′ ≡ a′ * e′ + Y′ * d′ →
+      up S * (d * d′) + (a * b′ + b * a′) * (e * e′) ≡ (a * a′ + b * b′) * (e * e′) + dn S * (d * d′)
+  product S X X′ Y Y′ e e′ k l m =
       simp ring
       (omega (
         arith,
@@ -83,14 +86,19 @@ module _ {x y : Exact} {a d a′ b′ d′ : ℕ} (f : Is x a 0 d) (g : Is y a�
         simp ring at (ap (λ (n : ℕ). n * (Y * d′)) l),
         simp ring at (ap (λ (n : ℕ). n * (Y′ * d′)) l),
         simp ring at (ap (λ (n : ℕ). n * (a * e)) m),
+        simp ring at (ap (λ (n : ℕ). n * (b * e)) m),
       ))
 
-  pub is-mul : Is (x ⊗ y) (a * a′) (a * b′) (d * d′)
-  is-mul = record {
-    eq = mul-eq (x .num *ℤ y .num) (above x) (below x) (above y) (below y) (x .den) (y .den) (mul-parts (x .num) (y .num)) (f .eq) (g .eq);
+  pub is-product : Is (x ⊗ y) (a * a′ + b * b′) (a * b′ + b * a′) (d * d′)
+  is-product = record {
+    eq = product (x .num *ℤ y .num) (above x) (below x) (above y) (below y) (x .den) (y .den) (mul-parts (x .num) (y .num)) (f .eq) (g .eq);
     proper = mul-pos (f .proper) (g .proper);
     over = mul-pos (f .over) (g .over);
   }
+
+-- where the first factor is not below zero
+pub is-mul : {x y : Exact} {a d a′ b′ d′ : ℕ} → Is x a 0 d → Is y a′ b′ d′ → Is (x ⊗ y) (a * a′) (a * b′) (d * d′)
+is-mul f g = is-net (is-product f g) (omega arith)
 
 -- the divisor is above zero
 module _ {x y : Exact} {a b d m e : ℕ} (f : Is x a b d) (g : Is y m 0 e) (h : 0 < m) where
@@ -179,6 +187,12 @@ module _ {x y : Exact} {a b d a′ b′ d′ : ℕ} (f : Is x a b d) (g : Is y a
 
   pub lt-is : x ≺ y → low < high
   lt-is h = lt-of-mul-lt-mul-left (x .den * y .den) (omega (arith, same-order, mul-lt-mul-of-pos-right (lt-out h) (mul-pos (f .over) (g .over))))
+
+  pub is-eq : low ≡ high → x ≈ y
+  is-eq e = eq-in (go (left x y) (right x y) (omega (arith, same-order, ap (λ (n : ℕ). n * (x .den * y .den)) e)))
+    where
+      go : (m n : ℕ) → d * d′ * m ≡ d * d′ * n → m ≡ n
+      go m n = eq-of-mul-eq-mul-left (d * d′) (mul-pos (f .over) (g .over)) m n
 
   pub is-yes : low ≤ high → atMost x y ≡ true
   is-yes h = go (atMost x y) (at-most-no {x = x} {y = y})

@@ -8,3 +8,4 @@ pub mod Rounded
 pub mod Is
 pub mod Climb
 pub mod Apart
+pub mod Through

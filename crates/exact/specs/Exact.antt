@@ -2,7 +2,7 @@
 -- Assumes nothing.
 use mathlib.Core.Path.{_≡_}
 use mathlib.Core.Bool.{Bool, cond}
-use Prim.Native.Nat.{ℕ, _*_}
+use Prim.Native.Nat.{ℕ, _*_, _<_}
 use lib.IntN.{ℤ, pos, negℤ, natAbs, _+ℤ_, _-ℤ_, _*ℤ_}
 use lib.Signed.{_≤ℤ_, _<ℤ_, leZ}
 
@@ -65,3 +65,12 @@ greater x y = cond (atMost x y) y x
 -- the value at x of the straight line that has y₀ at x₀ and y₁ at x₁
 abbrev pub line : Exact → Exact → Exact → Exact → Exact → Exact
 line x₀ y₀ x₁ y₁ x = y₀ ⊕ (y₁ ⊖ y₀) ⊗ (x ⊖ x₀) ⊘ (x₁ ⊖ x₀)
+
+-- it goes through its two points
+pub record Through (x₀ y₀ x₁ y₁ : Exact) : Type 0 where
+  pub starts : line x₀ y₀ x₁ y₁ x₀ ≈ y₀
+  pub ends : line x₀ y₀ x₁ y₁ x₁ ≈ y₁
+
+-- THEOREM (proofs/Through.antt): so it is with any two points, the first before the second
+abbrev pub LineTheorem : Type 0
+LineTheorem = (x₀ y₀ x₁ y₁ : Exact) → 0 < x₀ .den → 0 < y₀ .den → 0 < x₁ .den → 0 < y₁ .den → x₀ ≺ x₁ → Through x₀ y₀ x₁ y₁

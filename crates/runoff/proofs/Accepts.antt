@@ -13,7 +13,7 @@ use Rattle.runoff.specs.declared.Card.{Card}
 use Rattle.runoff.specs.declared.tables.Profile.{Profile}
 use Rattle.runoff.specs.Profile.{profileAt}
 use Rattle.runoff.specs.Refusal.{Test, test, first, ownTests, refusal}
-use Rattle.runoff.specs.Accepted.{AcceptedBy, AcceptedRule, Sizes, addedOf}
+use Rattle.runoff.specs.Accepted.{AcceptedBy, AcceptedTheorem, Sizes, addedOf}
 use Rattle.runoff.proofs.Clothoids.{at-least-30}
 use Rattle.runoff.proofs.Entries.{least-radius, sizes}
 use Rattle.runoff.proofs.Every.{every, here, later, at-place}
@@ -97,6 +97,6 @@ module _ (card : Card) where
       let radius : 30 ≤ card .radius = le-trans (least-radius (card .profile) (a .profile-least) (a .profile-most)) (a .radius-least) in
       le-trans (mul-le-mul-left 1000 (at-least-30 (card .radius) radius)) (a .clothoid-least)
 
-pub accepted-rule : (card : Card) → AcceptedRule card
+pub accepted-rule : AcceptedTheorem
 accepted-rule card =
     record { exactly = (accepted card, not-refused card); sizes = sizes-of card; long = long card }

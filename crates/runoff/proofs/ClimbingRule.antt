@@ -4,17 +4,16 @@ use mathlib.Core.Path.{_≡_, refl}
 use mathlib.Core.Logic.{_⊎_, inl, inr}
 use Prim.Native.Nat.{ℕ, _*_, _≤_, _<_}
 use native.Mathlib.Omega.{arith}
-use lib.IntN.{ℤ}
-use Rattle.exact.specs.Exact.{Exact, whole, _⊗_}
+use Rattle.exact.specs.Exact.{Exact, whole}
 use Rattle.exact.specs.Rounding.{lower}
 use Rattle.exact.proofs.Rounded.{rounding-laws}
 use Rattle.runoff.specs.declared.Card.{Card}
-use Rattle.runoff.specs.Lines.{Section, sectionOf, axis}
-use Rattle.runoff.specs.Rows.{row, rowOf, inUnits}
+use Rattle.runoff.specs.Lines.{sectionOf, axis}
+use Rattle.runoff.specs.Rows.{row, inUnits}
 use Rattle.runoff.specs.Refusal.{refusal}
 use Rattle.runoff.specs.Accepted.{addedOf}
-use Rattle.runoff.specs.Climbing.{ClimbingRule}
-use Rattle.runoff.specs.Accuracy.{Accurate, AccurateRow, AccuracyRule}
+use Rattle.runoff.specs.Climbing.{ClimbingRule, ClimbingTheorem}
+use Rattle.runoff.specs.Accuracy.{Accurate, AccurateRow, AccuracyTheorem}
 use Rattle.runoff.proofs.Accepts.{accepted-rule}
 use Rattle.runoff.proofs.ExactClimb.{Turns, climbs}
 use Rattle.runoff.proofs.TabledClimb.{on-whole, tabled}
@@ -26,7 +25,7 @@ some (inl e) = omega arith
 some (inr e) = omega arith
 
 module _ (card : Card) (passes : refusal card ≡ 0) where
-  turns : Turns (addedOf card) (sectionOf card)
+  pub turns : Turns (addedOf card) (sectionOf card)
   turns =
       let a = accepted-rule card .exactly .0 passes in
       let z = accepted-rule card .sizes passes in
@@ -42,18 +41,18 @@ module _ (card : Card) (passes : refusal card ≡ 0) where
   unit-some : 0 < card .unit
   unit-some = some (accepted-rule card .exactly .0 passes .unit)
 
-  pub climbing-rule : ClimbingRule card
+  climbs-so : ClimbingRule card
   unfolding row
-  climbing-rule = record { exact = λ s t a b. climbs turns a b; tabled = tabled turns (card .unit) unit-some }
+  climbs-so = record { exact = λ s t a b. climbs turns a b; tabled = tabled turns (card .unit) unit-some }
 
   accurate : (x : Exact) → 0 < x .den → Accurate (card .unit) x (inUnits (card .unit) x)
   accurate x p =
       let laws = rounding-laws lower (1000 * card .unit) (omega (arith, unit-some)) in
       record { fraction = p; nearest = laws .exists x p; half = laws .half x p }
 
-  pub accuracy-rule : AccuracyRule card
+  accurate-row : (d : ℕ) → d ≤ card .clothoid → AccurateRow card d
   unfolding row
-  accuracy-rule d h =
+  accurate-row d h =
       let narrow = accepted-rule card .exactly .0 passes .shoulder in
       let lines : ProperLines (sectionOf card) (whole d) = proper-lines turns (omega arith) (on-whole (sectionOf card) d h) in
       record {
@@ -65,3 +64,9 @@ module _ (card : Card) (passes : refusal card ≡ 0) where
         outerEdge = accurate _ (lines .outerEdge);
         outerBrow = accurate _ (lines .outerBrow);
       }
+
+pub climbing-rule : ClimbingTheorem
+climbing-rule = climbs-so
+
+pub accuracy-rule : AccuracyTheorem
+accuracy-rule = accurate-row

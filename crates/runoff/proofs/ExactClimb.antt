@@ -7,7 +7,7 @@ use native.Mathlib.Nat.{mul-le-mul-right, mul-pos, mul-add}
 use native.Mathlib.Decide.{ℕ-discrete, decLe}
 use native.Mathlib.Omega.{arith}
 use borrow.Author.Tests.{le-leb, lt-leb}
-use Rattle.exact.specs.Exact.{Exact, whole, _⊖_, _⊗_, _≼_, _≺_, _≈_}
+use Rattle.exact.specs.Exact.{Exact, whole, _≼_, _≺_, _≈_}
 use Rattle.exact.proofs.Ring.{times-zero}
 use Rattle.exact.proofs.Integers.{dn, is-pos}
 use Rattle.exact.proofs.Order.{above, below, le-out, ≼-refl, ≼-trans, ≺-≼-trans, ≼-≺-trans, ≼-antisym, ≺→≼, ≈→≼, ≈-sym, clash, ask}

@@ -13,4 +13,5 @@ pub mod ExactClimb
 pub mod Proper
 pub mod TabledClimb
 pub mod ClimbingRule
+pub mod TurningRule
 pub mod StarredReadings

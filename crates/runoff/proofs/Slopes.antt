@@ -1,12 +1,11 @@
 -- The outer slope at the station a/b in each stage, over one denominator.
 -- Assumes nothing.
-use mathlib.Core.Path.{_≡_, ap}
 use Prim.Native.Nat.{ℕ, _+_, _*_, _-_, _≤_, _<_}
-use native.Mathlib.Nat.{mul-pos, mul-le-mul-left}
+use native.Mathlib.Nat.{mul-pos}
 use native.Mathlib.Omega.{arith}
 use borrow.Author.Tests.{le-leb, lt-leb}
 use Rattle.exact.specs.Exact.{Exact, whole, minus, _⊖_}
-use Rattle.exact.proofs.Is.{Is, is-frac, is-whole, is-minus, is-one, is-as, is-net, is-scale, is-add, is-sub, is-mul, is-div, is-times, is-over, is-less, is-from-zero, is-yes, is-no}
+use Rattle.exact.proofs.Is.{Is, is-frac, is-whole, is-minus, is-one, is-as, is-net, is-add, is-sub, is-mul, is-div, is-times, is-over, is-less, is-from-zero, is-yes, is-no}
 use Rattle.runoff.specs.Lines.{Section, joint, outerSlope}
 
 module _ (x : Section) {s : Exact} {a b : ℕ} (at : Is s a 0 b) where

@@ -1,4 +1,4 @@
--- The starred readings at the edges, each computed from the definitions.
+-- The starred readings, and the reasons at their edges, computed from the definitions.
 -- Assumes nothing.
 use mathlib.Core.Path.{refl}
 use Rattle.exact.specs.Rounding.{rounded}
@@ -7,7 +7,9 @@ use Rattle.runoff.specs.Clothoid.{clothoids, leastLength}
 use Rattle.runoff.specs.Lines.{outerSlope, outerEdge, outerBrow, innerSlope, widening, innerEdge, innerShoulder, shoulderSlope, innerBrow}
 use Rattle.runoff.specs.Rows.{row, joined, rows}
 use Rattle.runoff.specs.Refusal.{refusal}
+use Rattle.runoff.specs.Table.{replyNumber}
 use Rattle.runoff.specs.Readings.{Readings}
+use Rattle.runoff.specs.Boundaries.{edges, Boundaries}
 
 pub readings : Readings
 unfolding rounded profiles profileAt clothoids leastLength outerSlope outerEdge outerBrow innerSlope widening innerEdge innerShoulder shoulderSlope innerBrow row joined rows refusal
@@ -32,3 +34,7 @@ readings =
       widening-1001 = refl;
       widening-3501 = refl;
     }
+
+pub boundaries : Boundaries
+unfolding edges profiles profileAt clothoids leastLength refusal replyNumber
+boundaries = record { own = refl; table-48 = refl; table-49 = refl; table-none = refl }

@@ -43,8 +43,12 @@ pub record Sizes (r : Profile) (added : ℕ) : Type 0 where
   pub added-least : 5 ≤ added
   pub added-most : added ≤ 20
 
--- THEOREM (proofs/Accepts.antt): a card is accepted exactly when all of these hold, and then its profile has these sizes
+-- a card is accepted exactly when all of these hold; then its profile has these sizes, and its clothoid is no shorter than 30 m
 pub record AcceptedRule (card : Card) : Type 0 where
   pub exactly : (refusal card ≡ 0) ↔ AcceptedBy (profileAt (card .profile)) card
   pub sizes : refusal card ≡ 0 → Sizes (profileAt (card .profile)) (addedOf card)
   pub long : refusal card ≡ 0 → 30000 ≤ card .clothoid
+
+-- THEOREM (proofs/Accepts.antt): so it is with every card
+abbrev pub AcceptedTheorem : Type 0
+AcceptedTheorem = (card : Card) → AcceptedRule card

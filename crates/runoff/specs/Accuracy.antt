@@ -6,8 +6,9 @@ use lib.IntN.{ℤ, pos}
 use Rattle.exact.specs.Exact.{Exact, frac, whole, _⊗_, _≼_, distance}
 use Rattle.exact.specs.Rounding.{lower, units, Nearest}
 use Rattle.runoff.specs.declared.Card.{Card}
-use Rattle.runoff.specs.Lines.{Section, sectionOf, axis, widening, innerBrow, innerEdge, outerEdge, outerBrow}
+use Rattle.runoff.specs.Lines.{sectionOf, axis, widening, innerBrow, innerEdge, outerEdge, outerBrow}
 use Rattle.runoff.specs.Rows.{rowOf}
+use Rattle.runoff.specs.Refusal.{refusal}
 
 -- n counts of the unit are nearest to x micrometres, halfway to the lower number, and within half a unit
 pub record Accurate (unit : ℕ) (x : Exact) (n : ℤ) : Type 0 where
@@ -15,7 +16,7 @@ pub record Accurate (unit : ℕ) (x : Exact) (n : ℤ) : Type 0 where
   pub nearest : Nearest lower (1000 * unit) x n
   pub half : distance x (units (1000 * unit) n) ≼ frac (1000 * unit) 2
 
--- THEOREM (proofs/AccuracyRule.antt): of the row at any station d of an accepted card
+-- the accuracy rule of the row at the station d
 pub record AccurateRow (card : Card) (d : ℕ) : Type 0 where
   pub station : rowOf card d .station ≡ pos d
   pub widening : Accurate (card .unit) (whole 1000 ⊗ widening (sectionOf card) (whole d)) (rowOf card d .widening)
@@ -25,5 +26,6 @@ pub record AccurateRow (card : Card) (d : ℕ) : Type 0 where
   pub outerEdge : Accurate (card .unit) (outerEdge (sectionOf card) (whole d)) (rowOf card d .outerEdge)
   pub outerBrow : Accurate (card .unit) (outerBrow (sectionOf card) (whole d)) (rowOf card d .outerBrow)
 
-abbrev pub AccuracyRule : Card → Type 0
-AccuracyRule card = (d : ℕ) → d ≤ card .clothoid → AccurateRow card d
+-- THEOREM (proofs/ClimbingRule.antt): it holds at every whole station of every accepted card
+abbrev pub AccuracyTheorem : Type 0
+AccuracyTheorem = (card : Card) → refusal card ≡ 0 → (d : ℕ) → d ≤ card .clothoid → AccurateRow card d

@@ -39,7 +39,7 @@ pub record Tabled (added unit : ℕ) (x : Section) (d e : ℕ) (n k : ℤ) : Typ
   pub order : n ≤ℤ k
   pub gentle : tabledHeight unit k ⊖ tabledHeight unit n ≼ whole (1000 * unit) ⊕ whole added ⊗ (whole e ⊖ whole d)
 
--- THEOREM (proofs/ClimbingRule.antt): the climbing rule of every card that none of its own reasons refuses
+-- the climbing rule of a card
 pub record ClimbingRule (card : Card) : Type 0 where
   -- for any two stations from its start to the clothoid's end, fractions included
   pub exact : (s t : Exact) → On (sectionOf card) s → On (sectionOf card) t → Climbs (addedOf card) (sectionOf card) s t
@@ -47,3 +47,7 @@ pub record ClimbingRule (card : Card) : Type 0 where
   pub tabled :
       (d e : ℕ) → d ≤ e → e ≤ card .clothoid →
       Tabled (addedOf card) (card .unit) (sectionOf card) d e (rowOf card d .outerEdge) (rowOf card e .outerEdge)
+
+-- THEOREM (proofs/ClimbingRule.antt): it holds of every accepted runoff, one whose card none of its own reasons refuses
+abbrev pub ClimbingTheorem : Type 0
+ClimbingTheorem = (card : Card) → refusal card ≡ 0 → ClimbingRule card

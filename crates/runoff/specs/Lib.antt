@@ -7,6 +7,8 @@ pub mod Refusal
 pub mod Table
 pub mod Runoff
 pub mod Accepted
+pub mod Turning
 pub mod Climbing
 pub mod Accuracy
 pub mod Readings
+pub mod Boundaries

@@ -1,0 +1,61 @@
+-- The outer slope turns as the paper words it, and the outer edge climbs at 3‰ up to the joint.
+-- Assumes nothing.
+use mathlib.Core.Path.{_≡_, ap}
+use mathlib.Core.Bool.{false}
+use Prim.Native.Nat.{ℕ, _+_, _*_, _-_, _≤_, _<_}
+use native.Mathlib.Nat.{mul-le-mul-left}
+use native.Mathlib.Decide.{decLe}
+use native.Mathlib.Omega.{arith}
+use borrow.Author.Tests.{leb-false}
+use Rattle.exact.specs.Exact.{Exact, whole, minus, _⊖_, _⊗_, _≼_, _≈_}
+use Rattle.exact.proofs.Ring.{ring}
+use Rattle.exact.proofs.Is.{Is, is-one, is-minus, is-frac, is-times, is-diff, is-eq, le-is}
+use Rattle.exact.proofs.Climb.{OnPiece}
+use Rattle.runoff.specs.Lines.{Section, On, isEven, joint, outerSlope, outerEdge}
+use Rattle.runoff.specs.Turning.{Turning, TurningTheorem}
+use Rattle.runoff.proofs.Slopes.{even-is, first-is, second-is}
+use Rattle.runoff.proofs.EdgePieces.{on-first}
+use Rattle.runoff.proofs.ExactClimb.{Turns, station-is}
+use Rattle.runoff.proofs.ClimbingRule.{turns}
+
+-- two heights on a piece that climbs at 3‰
+three : {α : ℕ} {s t X Y : Exact} → OnPiece α 3 1 s X → OnPiece α 3 1 t Y → Y ⊖ X ≈ whole 3 ⊗ (t ⊖ s)
+three f g = is-eq (is-diff (g .is) (f .is)) (is-times 3 (is-diff (g .at) (f .at))) (simp ring (omega arith))
+
+module _ {added : ℕ} {x : Section} (ok : Turns added x) where
+  joint-is : Is (joint x) (2 * x .h * x .p) 0 3
+  joint-is = is-frac (2 * x .h * x .p) 3 (omega arith)
+
+  two : isEven x ≡ false → x .h * (x .p + x .v) < 3 * x .L
+  two e = leb-false (3 * x .L) (x .h * (x .p + x .v)) e
+
+  starts : Dec (3 * x .L ≤ x .h * (x .p + x .v)) → outerSlope x (whole 0) ≈ minus (x .p)
+  starts (yes e) = is-eq (even-is x (is-one 0) (ok .long) e) (is-minus (x .p) 1 (omega arith)) (omega arith)
+  starts (no e) = is-eq (first-is x (is-one 0) (omega arith) (ok .wide) (omega arith)) (is-minus (x .p) 1 (omega arith)) (omega arith)
+
+  ends : Dec (3 * x .L ≤ x .h * (x .p + x .v)) → outerSlope x (whole (x .L)) ≈ whole (x .v)
+  ends (yes e) = is-eq (even-is x (is-one (x .L)) (ok .long) e) (is-one (x .v)) (omega arith)
+  ends (no e) =
+      let run : 2 * x .h * x .p < 3 * x .L = omega (arith, mul-le-mul-left (x .h) (ok .turned)) in
+      is-eq (second-is x (is-one (x .L)) (omega arith) (ok .turned) run (omega arith)) (is-one (x .v)) (whole-turn (x .p) (x .v) (3 * x .L - 2 * x .h * x .p) _ (ok .turned) (omega arith))
+    where
+      -- p, and v − p more over the whole of what is left
+      whole-turn : (p v E F : ℕ) → p ≤ v → F ≡ E → (p * (E * 1) + (v - p) * F) * 1 + 0 * (E * 1) ≡ v * (E * 1) + 0 * 1
+      whole-turn p v E F h e =
+          let d : v - p + p ≡ v = omega arith in
+          rw e (omega (arith, ap (λ (n : ℕ). n * E) d))
+
+  turning : Turning x
+  turning =
+      record {
+        starts = starts (decLe (3 * x .L) (x .h * (x .p + x .v)));
+        ends = ends (decLe (3 * x .L) (x .h * (x .p + x .v)));
+        at-joint = λ e. is-eq (first-is x joint-is (two e) (ok .wide) (omega arith)) (is-one (x .p)) (omega arith);
+        first-stage = λ e s t a b i j. three (on a e i) (on b e j);
+      }
+    where
+      on : {u : Exact} → On x u → isEven x ≡ false → u ≼ joint x → OnPiece (x .c * x .q) 3 1 u (outerEdge x u)
+      on k e i = on-first x (station-is k) (two e) (ok .wide) (omega (arith, le-is (station-is k) joint-is i))
+
+pub turning-rule : TurningTheorem
+turning-rule card passes = turning (turns card passes)

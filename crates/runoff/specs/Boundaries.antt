@@ -1,0 +1,104 @@
+-- The reasons at their edges: a card on either side of every bound, the extreme cards, and cards that meet two reasons at once.
+-- The numbers are worked out by hand from document 01's table of reasons.
+-- Assumes nothing.
+use mathlib.Core.Path.{_≡_}
+use mathlib.Core.List.{List, [], _∷_, map}
+use Prim.Native.Nat.{ℕ}
+use Rattle.runoff.specs.declared.Card.{Card}
+use Rattle.runoff.specs.Refusal.{refusal}
+use Rattle.runoff.specs.Table.{replyNumber}
+use Rattle.runoff.specs.Readings.{card}
+
+-- a card and the number that it gives
+pub record Edge : Type 0 where
+  pub of : Card
+  pub gives : ℕ
+
+abbrev pub edge : Card → ℕ → Edge
+edge x n = record { of = x; gives = n }
+
+abbrev pub greatest : ℕ
+greatest = 4294967295
+
+-- each edge, beside a card that passes: profile 3, level, R 700, L 120000, v 40, W 400, step 20000, unit 10
+unfoldable pub edges : List Edge
+edges =
+    edge (card 3 1 700 120000 40 400 20000 10) 0 ∷
+    -- every number 0, every number the greatest
+    edge (card 0 0 0 0 0 0 0 0) 1 ∷
+    edge (card greatest greatest greatest greatest greatest greatest greatest greatest) 1 ∷
+    -- 1, profile: not 1 to 5
+    edge (card 0 1 700 120000 40 400 20000 10) 1 ∷
+    edge (card 1 1 700 120000 40 400 20000 10) 0 ∷
+    edge (card 5 1 700 120000 40 400 20000 10) 0 ∷
+    edge (card 6 1 700 120000 40 400 20000 10) 1 ∷
+    edge (card greatest 1 700 120000 40 400 20000 10) 1 ∷
+    -- 2, terrain: not 1 or 2
+    edge (card 3 0 700 120000 40 400 20000 10) 2 ∷
+    edge (card 3 2 700 120000 40 400 20000 10) 0 ∷
+    edge (card 3 3 700 120000 40 400 20000 10) 2 ∷
+    edge (card 3 greatest 700 120000 40 400 20000 10) 2 ∷
+    -- 3, radius: below the profile's least, or above 2000
+    edge (card 3 1 59 120000 40 400 20000 10) 3 ∷
+    edge (card 3 1 60 120000 40 400 20000 10) 0 ∷
+    edge (card 1 1 124 120000 40 400 20000 10) 3 ∷
+    edge (card 1 1 125 120000 40 400 20000 10) 0 ∷
+    edge (card 3 1 2000 120000 40 0 20000 10) 0 ∷
+    edge (card 3 1 2001 120000 40 0 20000 10) 3 ∷
+    edge (card 3 1 0 120000 40 400 20000 10) 3 ∷
+    edge (card 3 1 greatest 120000 40 0 20000 10) 3 ∷
+    -- 4, clothoid: shorter than least L, or above 300000
+    edge (card 3 1 700 119999 40 400 20000 10) 4 ∷
+    edge (card 3 1 700 300000 40 400 20000 10) 0 ∷
+    edge (card 3 1 700 300001 40 400 20000 10) 4 ∷
+    edge (card 3 1 700 0 40 400 20000 10) 4 ∷
+    edge (card 3 1 700 greatest 40 400 20000 10) 4 ∷
+    -- 5, full slope: v below p, or above 60
+    edge (card 3 1 700 120000 19 400 20000 10) 5 ∷
+    edge (card 3 1 700 120000 20 400 20000 10) 0 ∷
+    edge (card 3 1 700 120000 60 400 20000 10) 0 ∷
+    edge (card 3 1 700 120000 61 400 20000 10) 5 ∷
+    edge (card 3 1 700 120000 greatest 400 20000 10) 5 ∷
+    -- 6, widening: W above 3500, or above 0 with R above 1000
+    edge (card 3 1 700 120000 40 3500 20000 10) 7 ∷
+    edge (card 3 1 700 120000 40 3501 20000 10) 6 ∷
+    edge (card 3 1 700 120000 40 greatest 20000 10) 6 ∷
+    edge (card 3 1 1000 120000 40 1 20000 10) 0 ∷
+    edge (card 3 1 1001 120000 40 1 20000 10) 6 ∷
+    edge (card 3 1 1001 120000 40 0 20000 10) 0 ∷
+    -- 7, narrow shoulder: c less W is below m
+    edge (card 3 1 700 120000 40 1000 20000 10) 0 ∷
+    edge (card 3 1 700 120000 40 1001 20000 10) 7 ∷
+    -- 8, added slope: h × (p + v) above added slope × L
+    edge (card 1 1 125 60000 60 0 20000 10) 0 ∷
+    edge (card 1 1 125 59999 60 0 20000 10) 8 ∷
+    edge (card 1 2 125 59999 60 0 20000 10) 8 ∷
+    -- 9, step: below 1000 or above 20000
+    edge (card 3 1 700 120000 40 400 0 10) 9 ∷
+    edge (card 3 1 700 120000 40 400 999 10) 9 ∷
+    edge (card 3 1 700 120000 40 400 1000 10) 0 ∷
+    edge (card 3 1 700 120000 40 400 20001 10) 9 ∷
+    edge (card 3 1 700 120000 40 400 greatest 10) 9 ∷
+    -- 10, unit: not 1 or 10
+    edge (card 3 1 700 120000 40 400 20000 0) 10 ∷
+    edge (card 3 1 700 120000 40 400 20000 1) 0 ∷
+    edge (card 3 1 700 120000 40 400 20000 2) 10 ∷
+    edge (card 3 1 700 120000 40 400 20000 9) 10 ∷
+    edge (card 3 1 700 120000 40 400 20000 11) 10 ∷
+    edge (card 3 1 700 120000 40 400 20000 greatest) 10 ∷
+    -- rising order, first one met: two neighbours at once
+    edge (card 0 0 700 120000 40 400 20000 10) 1 ∷
+    edge (card 3 0 59 120000 40 400 20000 10) 2 ∷
+    edge (card 3 1 59 0 40 400 20000 10) 3 ∷
+    edge (card 3 1 700 0 0 400 20000 10) 4 ∷
+    edge (card 3 1 700 120000 0 3501 20000 10) 5 ∷
+    edge (card 1 1 125 59999 60 2251 20000 10) 7 ∷
+    edge (card 1 1 125 59999 60 0 0 10) 8 ∷
+    edge (card 3 1 700 120000 40 400 0 0) 9 ∷ []
+
+-- THEOREM (proofs/StarredReadings.antt): each card of the list gives its number; and 11, short table: 7 rows need 49 numbers
+pub record Boundaries : Type 0 where
+  pub own : map (λ (e : Edge). refusal (e .of)) edges ≡ map (λ (e : Edge). e .gives) edges
+  pub table-48 : replyNumber (card 3 1 400 110000 40 400 20000 10) 48 ≡ 11
+  pub table-49 : replyNumber (card 3 1 400 110000 40 400 20000 10) 49 ≡ 0
+  pub table-none : replyNumber (card 3 1 400 110000 40 400 0 10) 0 ≡ 9

@@ -1,0 +1,21 @@
+-- Document 01, "Lines of the cross-section": that the outer slope turns as the paper words it.
+-- Assumes nothing.
+use mathlib.Core.Path.{_≡_}
+use mathlib.Core.Bool.{false}
+use Rattle.exact.specs.Exact.{Exact, whole, minus, _⊖_, _⊗_, _≼_, _≈_}
+use Rattle.runoff.specs.declared.Card.{Card}
+use Rattle.runoff.specs.Lines.{Section, sectionOf, On, isEven, joint, outerSlope, outerEdge}
+use Rattle.runoff.specs.Refusal.{refusal}
+
+-- from −p at 0 to v at L; in the two-stage case the outer edge climbs at 3‰ until the outer slope is p, at station 2 × h × p / 3
+pub record Turning (x : Section) : Type 0 where
+  pub starts : outerSlope x (whole 0) ≈ minus (x .p)
+  pub ends : outerSlope x (whole (x .L)) ≈ whole (x .v)
+  pub at-joint : isEven x ≡ false → outerSlope x (joint x) ≈ whole (x .p)
+  pub first-stage :
+      isEven x ≡ false → (s t : Exact) → On x s → On x t → s ≼ joint x → t ≼ joint x →
+      outerEdge x t ⊖ outerEdge x s ≈ whole 3 ⊗ (t ⊖ s)
+
+-- THEOREM (proofs/TurningRule.antt): so it is with every accepted card
+abbrev pub TurningTheorem : Type 0
+TurningTheorem = (card : Card) → refusal card ≡ 0 → Turning (sectionOf card)

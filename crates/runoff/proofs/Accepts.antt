@@ -21,13 +21,13 @@ use Rattle.runoff.proofs.Steps.{at-start, passed}
 use Rattle.runoff.proofs.Turned.{not-above, not-outside, not-neither, not-too-wide}
 
 -- ---- any list of tests whose numbers are above 0
-abbrev numbered : Test → Bool
+abbrev pub numbered : Test → Bool
 numbered t = ltb 0 (t .number)
 
 abbrev unmet : Test → Bool
 unmet t = not (t .met)
 
-zero-unmet : (b : Bool) (n m : ℕ) → 0 < n → cond b n m ≡ 0 → (not b ≡ true) × (m ≡ 0)
+pub zero-unmet : (b : Bool) (n m : ℕ) → 0 < n → cond b n m ≡ 0 → (not b ≡ true) × (m ≡ 0)
 zero-unmet true n m h e = absurd (omega arith)
 zero-unmet false n m h e = (refl, e)
 

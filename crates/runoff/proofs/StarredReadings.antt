@@ -1,23 +1,47 @@
 -- The starred readings, and the reasons at their edges, computed from the definitions.
 -- Assumes nothing.
-use mathlib.Core.Path.{refl}
+use mathlib.Core.Path.{_≡_, refl, ap, _∙_}
+use mathlib.Core.Bool.{Bool, true, false, cond}
+use mathlib.Core.List.{List, [], _∷_}
+use Prim.Native.Nat.{ℕ}
+use borrow.Author.Tests.{ltb-true, not-true}
 use Rattle.exact.specs.Rounding.{rounded}
 use Rattle.runoff.specs.Profile.{profiles, profileAt}
 use Rattle.runoff.specs.Clothoid.{clothoids, leastLength}
 use Rattle.runoff.specs.Lines.{outerSlope, outerEdge, outerBrow, innerSlope, widening, innerEdge, innerShoulder, shoulderSlope, innerBrow}
 use Rattle.runoff.specs.Rows.{row, joined, rows}
-use Rattle.runoff.specs.Refusal.{refusal}
+use Rattle.runoff.specs.declared.Card.{Card}
+use Rattle.runoff.specs.Refusal.{Test, first, ownTests, refusal}
 use Rattle.runoff.specs.Table.{replyNumber}
-use Rattle.runoff.specs.Readings.{Readings}
+use Rattle.runoff.specs.Readings.{Readings, Gives, among, only, others}
 use Rattle.runoff.specs.Boundaries.{edges, Boundaries}
+use Rattle.runoff.proofs.Every.{every, here, later}
+use Rattle.runoff.proofs.Accepts.{numbered, zero-unmet}
+
+-- where no other test is met, the first one met is among those in ns
+first-among : (ns : List ℕ) (ts : List Test) → every numbered ts ≡ true → first (others ns ts) ≡ 0 → first ts ≡ first (only ns ts)
+first-among ns [] t e = refl
+first-among ns (x ∷ xs) t e = go (among ns (x .number)) (first-among ns xs (later numbered x xs t)) e
+  where
+    go :
+        (b : Bool) → (first (others ns xs) ≡ 0 → first xs ≡ first (only ns xs)) → first (cond b (others ns xs) (x ∷ others ns xs)) ≡ 0 →
+        first (x ∷ xs) ≡ first (cond b (x ∷ only ns xs) (only ns xs))
+    go true rest e = ap (cond (x .met) (x .number)) (rest e)
+    go false rest e =
+        let both = zero-unmet (x .met) (x .number) (first (others ns xs)) (ltb-true 0 (x .number) (here numbered x xs t)) e in
+        rw (not-true (x .met) (both .0)) (rest (both .1))
+
+gives : {n : ℕ} {ns : List ℕ} {x : Card} → first (only ns (ownTests x)) ≡ n → Gives n ns x
+unfolding refusal
+gives {ns = ns} {x} e = record { gives = λ none. first-among ns (ownTests x) refl none ∙ e }
 
 pub readings : Readings
 unfolding rounded profiles profileAt clothoids leastLength outerSlope outerEdge outerBrow innerSlope widening innerEdge innerShoulder shoulderSlope innerBrow row joined rows refusal
 readings =
     record {
       ramp = refl;
-      added-met = refl;
-      added-passes = refl;
+      added-met = λ W step unit. gives refl;
+      added-passes = λ W step unit. gives refl;
       even = λ terrain R W step unit. refl;
       two-stage = λ terrain R W step unit. refl;
       stages = λ terrain step. refl;
@@ -27,12 +51,12 @@ readings =
       least-225 = refl;
       least-1500 = refl;
       least-2000 = refl;
-      slope-29 = refl;
-      slope-30 = refl;
-      slope-61 = refl;
-      widening-1000 = refl;
-      widening-1001 = refl;
-      widening-3501 = refl;
+      slope-29 = λ terrain R L W step unit. gives refl;
+      slope-30 = λ terrain R L W step unit. gives refl;
+      slope-61 = λ terrain R L W step unit. gives refl;
+      widening-1000 = λ terrain R L v step unit. gives refl;
+      widening-1001 = λ terrain R L v step unit. gives refl;
+      widening-3501 = λ terrain R L v step unit. gives refl;
     }
 
 pub boundaries : Boundaries

@@ -86,6 +86,15 @@ edges =
     edge (card 3 1 700 120000 40 400 20000 9) 10 ∷
     edge (card 3 1 700 120000 40 400 20000 11) 10 ∷
     edge (card 3 1 700 120000 40 400 20000 greatest) 10 ∷
+    -- cards of the starred readings
+    edge (card 1 1 125 55000 60 0 20000 1) 8 ∷
+    edge (card 1 1 125 60000 60 0 20000 1) 0 ∷
+    edge (card 4 2 100 50000 29 0 20000 1) 5 ∷
+    edge (card 4 2 100 50000 30 0 20000 1) 0 ∷
+    edge (card 4 2 100 50000 61 0 20000 1) 5 ∷
+    edge (card 2 2 100 50000 40 1000 20000 1) 0 ∷
+    edge (card 2 2 100 50000 40 1001 20000 1) 7 ∷
+    edge (card 2 2 100 50000 40 3501 20000 1) 6 ∷
     -- rising order, first one met: two neighbours at once
     edge (card 0 0 700 120000 40 400 20000 10) 1 ∷
     edge (card 3 0 59 120000 40 400 20000 10) 2 ∷

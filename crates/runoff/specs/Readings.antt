@@ -1,16 +1,17 @@
 -- Document 01, "Readings at the edges": the starred ones, in the paper's order, as one statement about the definitions.
--- Numbers that a reading leaves out are chosen such that no other refusal applies, or are any numbers where nothing depends on them.
+-- Numbers left out of a reading are any numbers such that no other refusal applies, or any numbers at all where nothing depends on them.
 -- Assumes nothing.
 use mathlib.Core.Path.{_≡_}
-use mathlib.Core.Bool.{true, false}
+use mathlib.Core.Bool.{Bool, true, false, cond, _||_}
 use mathlib.Core.List.{List, [], _∷_}
 use Prim.Native.Nat.{ℕ}
+use lib.Dec.{eqb}
 use lib.IntN.{ℤ, pos, negsuc}
 use Rattle.runoff.specs.declared.Card.{Card}
 use Rattle.runoff.specs.Clothoid.{leastLength}
 use Rattle.runoff.specs.Lines.{sectionOf, isEven}
 use Rattle.runoff.specs.Rows.{rowOf, rows}
-use Rattle.runoff.specs.Refusal.{refusal}
+use Rattle.runoff.specs.Refusal.{Test, first, ownTests, refusal}
 
 -- a card's eight numbers in their order
 abbrev pub card : ℕ → ℕ → ℕ → ℕ → ℕ → ℕ → ℕ → ℕ → Card
@@ -26,6 +27,23 @@ card profile terrain R L v W step unit =
       unit = unit;
     }
 
+-- the reasons whose numbers are in ns, and all others
+abbrev pub among : List ℕ → ℕ → Bool
+among [] n = false
+among (k ∷ ks) n = eqb n k || among ks n
+
+abbrev pub only : List ℕ → List Test → List Test
+only ns [] = []
+only ns (t ∷ ts) = cond (among ns (t .number)) (t ∷ only ns ts) (only ns ts)
+
+abbrev pub others : List ℕ → List Test → List Test
+others ns [] = []
+others ns (t ∷ ts) = cond (among ns (t .number)) (others ns ts) (t ∷ others ns ts)
+
+-- if no reason of the card but those in ns is met, the card gives n
+pub record Gives (n : ℕ) (ns : List ℕ) (x : Card) : Type 0 where
+  pub gives : first (others ns (ownTests x)) ≡ 0 → refusal x ≡ n
+
 -- the outer edges of a card's rows at some stations
 abbrev pub outerEdges : Card → List ℕ → List ℤ
 outerEdges x [] = []
@@ -40,8 +58,8 @@ pub record Readings : Type 0 where
       pos 20000 ∷ pos 400 ∷ pos 12 ∷ pos 93 ∷ pos 172 ∷ pos 240 ∷ pos 292 ∷
       pos 30000 ∷ pos 600 ∷ negsuc 67 ∷ pos 1 ∷ pos 172 ∷ pos 307 ∷ pos 412 ∷ []
   -- profile 1, R 125, v 60, level: L 55000 gives 8; L 60000 passes
-  pub added-met : refusal (card 1 1 125 55000 60 0 20000 1) ≡ 8
-  pub added-passes : refusal (card 1 1 125 60000 60 0 20000 1) ≡ 0
+  pub added-met : (W step unit : ℕ) → Gives 8 (8 ∷ []) (card 1 1 125 55000 60 W step unit)
+  pub added-passes : (W step unit : ℕ) → Gives 0 (8 ∷ []) (card 1 1 125 60000 60 W step unit)
   -- profile 2, v 60: L 93333 is even, 93334 two-stage
   pub even : (terrain R W step unit : ℕ) → isEven (sectionOf (card 2 terrain R 93333 60 W step unit)) ≡ true
   pub two-stage : (terrain R W step unit : ℕ) → isEven (sectionOf (card 2 terrain R 93334 60 W step unit)) ≡ false
@@ -62,10 +80,10 @@ pub record Readings : Type 0 where
   pub least-1500 : leastLength 1500 ≡ 120
   pub least-2000 : leastLength 2000 ≡ 100
   -- profile 4: v 29 gives 5, 30 passes, 61 gives 5
-  pub slope-29 : refusal (card 4 2 100 50000 29 0 20000 1) ≡ 5
-  pub slope-30 : refusal (card 4 2 100 50000 30 0 20000 1) ≡ 0
-  pub slope-61 : refusal (card 4 2 100 50000 61 0 20000 1) ≡ 5
-  -- profile 2: W 1000 passes, 1001 gives 7, 3501 gives 6
-  pub widening-1000 : refusal (card 2 2 100 50000 40 1000 20000 1) ≡ 0
-  pub widening-1001 : refusal (card 2 2 100 50000 40 1001 20000 1) ≡ 7
-  pub widening-3501 : refusal (card 2 2 100 50000 40 3501 20000 1) ≡ 6
+  pub slope-29 : (terrain R L W step unit : ℕ) → Gives 5 (5 ∷ []) (card 4 terrain R L 29 W step unit)
+  pub slope-30 : (terrain R L W step unit : ℕ) → Gives 0 (5 ∷ []) (card 4 terrain R L 30 W step unit)
+  pub slope-61 : (terrain R L W step unit : ℕ) → Gives 5 (5 ∷ []) (card 4 terrain R L 61 W step unit)
+  -- profile 2: W 1000 passes, 1001 gives 7, 3501 gives 6 (where 7 is met too)
+  pub widening-1000 : (terrain R L v step unit : ℕ) → Gives 0 (7 ∷ []) (card 2 terrain R L v 1000 step unit)
+  pub widening-1001 : (terrain R L v step unit : ℕ) → Gives 7 (7 ∷ []) (card 2 terrain R L v 1001 step unit)
+  pub widening-3501 : (terrain R L v step unit : ℕ) → Gives 6 (6 ∷ 7 ∷ []) (card 2 terrain R L v 3501 step unit)

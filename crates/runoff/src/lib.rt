@@ -20,7 +20,7 @@ ghost use Rattle.runoff.specs.Refusal.{first, testsBy, refusal};
 ghost use Rattle.runoff.specs.Runoff.{stagesOf, runoffOf, madeOf};
 ghost use Rattle.runoff.specs.Lines.{sectionBy};
 
-// A curve card: lengths in mm but the radius in metres, the slope in per mille.
+// A curve card, its eight numbers in the order of the paper: lengths in mm but the radius in metres, the slope in per mille.
 pub struct Card {
     pub profile: u32,
     pub terrain: u32,

@@ -88,9 +88,15 @@ parts-eq (pos a) (negsuc b) h = absurd (omega arith)
 parts-eq (negsuc a) (pos b) h = absurd (omega arith)
 parts-eq (negsuc a) (negsuc b) h = ap negsuc (omega arith)
 
+-- the size of a number
 pub abs-parts : (z : ℤ) → natAbs z ≡ up z + dn z
 abs-parts (pos n) = omega arith
 abs-parts (negsuc n) = omega arith
+
+-- the same where each part is cut off at the other: one of the two is 0
+pub size-parts : (z : ℤ) → natAbs z ≡ (up z - dn z) + (dn z - up z)
+size-parts (pos n) = omega arith
+size-parts (negsuc n) = omega arith
 
 -- ---- what a signed test leaves
 pub lt-yes : (a b : ℤ) → ltZ a b ≡ true → up a + dn b < up b + dn a

@@ -1,14 +1,14 @@
 -- Rounding to whole units: what the division computes is the nearest count, and its laws.
 -- Assumes nothing.
 use mathlib.Core.Path.{_≡_, refl, ap}
-use Prim.Native.Nat.{ℕ, _+_, _*_, _-_, _≤_, _<_}
+use Prim.Native.Nat.{ℕ, _+_, _*_, _≤_, _<_}
 use native.Mathlib.Nat.{mul-le-mul-right, mul-pos, le-of-mul-le-mul-right, lt-of-mul-lt-mul-right}
 use native.Mathlib.Omega.{arith}
 use lib.IntN.{ℤ, pos, negsuc, natAbs, _+ℤ_, _-ℤ_, _*ℤ_}
 use lib.Signed.{_≤ℤ_}
 use Rattle.exact.specs.Exact.{Exact, _⊕_, _⊖_, _≼_, _≈_}
-use Rattle.exact.specs.Rounding.{Tie, lower, higher, units, Prefers, Nearest, taken, rounded, RoundingLaws}
-use Rattle.exact.proofs.Integers.{up, dn, ints, add-parts, sub-parts, mul-parts, parts-le, parts-eq}
+use Rattle.exact.specs.Rounding.{Tie, lower, higher, units, Prefers, Nearest, taken, rounded, RoundingTheorem}
+use Rattle.exact.proofs.Integers.{up, dn, ints, add-parts, sub-parts, mul-parts, parts-le, parts-eq, size-parts}
 use Rattle.exact.proofs.Order.{above, below, le-out, le-in, eq-out, eq-in}
 use Rattle.exact.proofs.Sums.{sum-parts, difference-parts}
 use Rattle.exact.proofs.Floor.{floor-is}
@@ -80,11 +80,6 @@ rest u x n = (x ⊖ units u n) .num
 rest-parts : (u : ℕ) (x : Exact) (n : ℤ) → up (rest u x n) + below x + up n * (x .den * u) ≡ dn (rest u x n) + above x + dn n * (x .den * u)
 rest-parts u x n = omega (arith, difference-parts x (units u n), ap (λ (m : ℕ). m * x .den) (mul-parts n (pos u)))
 
--- |z| is up − dn or dn − up, whichever is not cut off at 0
-size-parts : (z : ℤ) → natAbs z ≡ (up z - dn z) + (dn z - up z)
-size-parts (pos n) = omega arith
-size-parts (negsuc n) = omega arith
-
 taken-most : (tie : Tie) → taken tie ≤ 1
 taken-most lower = omega arith
 taken-most higher = omega arith
@@ -136,7 +131,7 @@ nearest-unique {tie} {u} {x} {n} {k} f g =
     let b = le-out (g .nearest n) in
     prefers-antisym tie n k (f .halfway k (eq-in (omega arith))) (g .halfway n (eq-in (omega arith)))
 
-pub rounding-laws : (tie : Tie) (u : ℕ) → 0 < u → RoundingLaws tie u
+pub rounding-laws : RoundingTheorem
 rounding-laws tie u unit =
     let is = rounded-half tie unit in
     record {

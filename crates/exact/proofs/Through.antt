@@ -22,7 +22,6 @@ line-through x₀ y₀ x₁ y₁ p₀ q₀ p₁ q₁ before =
     let Y₁ = is-self y₁ q₁ in
     let ahead = lt-is X₀ X₁ before in
     let run = is-natural (is-diff X₁ X₀) (omega arith) in
-    record {
-      starts = is-eq (is-sum Y₀ (nought (is-diff Y₁ Y₀) (is-net (is-diff X₀ X₀) (omega arith)) run (omega arith))) Y₀ (omega arith);
-      ends = is-eq (is-sum Y₀ (back (is-diff Y₁ Y₀) run (omega arith))) Y₁ (simp ring (omega arith));
-    }
+    let start = is-sum Y₀ (nought (is-diff Y₁ Y₀) (is-net (is-diff X₀ X₀) (omega arith)) run (omega arith)) in
+    let end = is-sum Y₀ (back (is-diff Y₁ Y₀) run (omega arith)) in
+    record { fractions = (start .proper, end .proper); starts = is-eq start Y₀ (omega arith); ends = is-eq end Y₁ (simp ring (omega arith)) }

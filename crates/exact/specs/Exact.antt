@@ -68,6 +68,7 @@ line x₀ y₀ x₁ y₁ x = y₀ ⊕ (y₁ ⊖ y₀) ⊗ (x ⊖ x₀) ⊘ (x₁
 
 -- it goes through its two points
 pub record Through (x₀ y₀ x₁ y₁ : Exact) : Type 0 where
+  pub fractions : (0 < line x₀ y₀ x₁ y₁ x₀ .den) × (0 < line x₀ y₀ x₁ y₁ x₁ .den)
   pub starts : line x₀ y₀ x₁ y₁ x₀ ≈ y₀
   pub ends : line x₀ y₀ x₁ y₁ x₁ ≈ y₁
 

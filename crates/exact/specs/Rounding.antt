@@ -41,8 +41,8 @@ unfoldable pub rounded : Tie → ℕ → Exact → ℤ
 rounded tie u x = floorDiv (pos 2 *ℤ x .num +ℤ (pos (x .den * u) -ℤ pos (taken tie))) (2 * (x .den * u))
 
 -- ---- the laws
--- THEOREM (proofs/Rounded.antt), for every unit above 0 and every fraction over a number above 0:
--- it exists and is unique, keeps the order, does not depend on how the fraction is written, shifts by whole units, and is within half a unit
+-- of fractions over a number above 0: the nearest count exists and is unique, keeps the order, does not depend on how the fraction is written,
+-- shifts by whole units, and is within half a unit
 pub record RoundingLaws (tie : Tie) (u : ℕ) : Type 0 where
   pub exists : (x : Exact) → 0 < x .den → Nearest tie u x (rounded tie u x)
   pub unique : (x : Exact) (n k : ℤ) → Nearest tie u x n → Nearest tie u x k → n ≡ k
@@ -50,3 +50,7 @@ pub record RoundingLaws (tie : Tie) (u : ℕ) : Type 0 where
   pub same : (x y : Exact) → 0 < x .den → 0 < y .den → x ≈ y → rounded tie u x ≡ rounded tie u y
   pub shift : (x : Exact) (k : ℤ) → 0 < x .den → rounded tie u (x ⊕ units u k) ≡ rounded tie u x +ℤ k
   pub half : (x : Exact) → 0 < x .den → distance x (units u (rounded tie u x)) ≼ frac u 2
+
+-- THEOREM (proofs/Rounded.antt): so it is with either tie rule and every unit above 0
+abbrev pub RoundingTheorem : Type 0
+RoundingTheorem = (tie : Tie) (u : ℕ) → 0 < u → RoundingLaws tie u

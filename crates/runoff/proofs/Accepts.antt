@@ -18,7 +18,7 @@ use Rattle.runoff.proofs.Clothoids.{at-least-30}
 use Rattle.runoff.proofs.Entries.{least-radius, sizes}
 use Rattle.runoff.proofs.Every.{every, here, later, at-place}
 use Rattle.runoff.proofs.Steps.{at-start, passed}
-use Rattle.runoff.proofs.Turned.{not-above, not-outside, not-neither, not-too-wide}
+use Rattle.runoff.proofs.Unmet.{not-above, not-outside, not-neither, not-too-wide}
 
 -- ---- any list of tests whose numbers are above 0
 abbrev pub numbered : Test → Bool

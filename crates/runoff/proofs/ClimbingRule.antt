@@ -4,20 +4,21 @@ use mathlib.Core.Path.{_≡_, refl}
 use mathlib.Core.Logic.{_⊎_, inl, inr}
 use Prim.Native.Nat.{ℕ, _*_, _≤_, _<_}
 use native.Mathlib.Omega.{arith}
-use Rattle.exact.specs.Exact.{Exact, whole}
+use Rattle.exact.specs.Exact.{Exact}
 use Rattle.exact.specs.Rounding.{lower}
 use Rattle.exact.proofs.Rounded.{rounding-laws}
 use Rattle.runoff.specs.declared.Card.{Card}
 use Rattle.runoff.specs.Lines.{sectionOf, axis}
-use Rattle.runoff.specs.Rows.{row, inUnits}
+use Rattle.runoff.specs.Rows.{stationOf, row, inUnits}
 use Rattle.runoff.specs.Refusal.{refusal}
 use Rattle.runoff.specs.Accepted.{addedOf}
-use Rattle.runoff.specs.Climbing.{ClimbingRule, ClimbingTheorem}
+use Rattle.runoff.specs.Climbing.{TabledAt, ClimbingRule, ClimbingTheorem}
 use Rattle.runoff.specs.Accuracy.{Accurate, AccurateRow, AccuracyTheorem}
 use Rattle.runoff.proofs.Accepts.{accepted-rule}
-use Rattle.runoff.proofs.ExactClimb.{Turns, climbs}
+use Rattle.runoff.proofs.RowPlaces.{station-most, station-rises}
+use Rattle.runoff.proofs.ExactClimb.{ClimbPremises, climbs}
 use Rattle.runoff.proofs.TabledClimb.{on-whole, tabled}
-use Rattle.runoff.proofs.Proper.{ProperLines, proper-lines}
+use Rattle.runoff.proofs.Proper.{proper}
 
 -- a unit of 1 or 10 is above 0
 some : {unit : ℕ} → (unit ≡ 1) ⊎ (unit ≡ 10) → 0 < unit
@@ -25,8 +26,8 @@ some (inl e) = omega arith
 some (inr e) = omega arith
 
 module _ (card : Card) (passes : refusal card ≡ 0) where
-  pub turns : Turns (addedOf card) (sectionOf card)
-  turns =
+  pub premises : ClimbPremises (addedOf card) (sectionOf card)
+  premises =
       let a = accepted-rule card .exactly .0 passes in
       let z = accepted-rule card .sizes passes in
       record {
@@ -41,9 +42,20 @@ module _ (card : Card) (passes : refusal card ≡ 0) where
   unit-some : 0 < card .unit
   unit-some = some (accepted-rule card .exactly .0 passes .unit)
 
-  climbs-so : ClimbingRule card
+  at-stations : (d e : ℕ) → d ≤ e → e ≤ card .clothoid → TabledAt card d e
   unfolding row
-  climbs-so = record { exact = λ s t a b. climbs turns a b; tabled = tabled turns (card .unit) unit-some }
+  at-stations = tabled premises (card .unit) unit-some
+
+  climbs-so : ClimbingRule card
+  climbs-so =
+      record {
+        exact = λ s t a b. climbs premises a b;
+        tabled = at-stations;
+        rows = λ i j h. at-stations (stationOf card i) (stationOf card j) (station-rises card i j h) (station-most card j);
+      }
+
+  pub narrow : card .«full_widening» ≤ sectionOf card .c
+  narrow = omega (arith, accepted-rule card .exactly .0 passes .shoulder)
 
   accurate : (x : Exact) → 0 < x .den → Accurate (card .unit) x (inUnits (card .unit) x)
   accurate x p =
@@ -53,8 +65,7 @@ module _ (card : Card) (passes : refusal card ≡ 0) where
   accurate-row : (d : ℕ) → d ≤ card .clothoid → AccurateRow card d
   unfolding row
   accurate-row d h =
-      let narrow = accepted-rule card .exactly .0 passes .shoulder in
-      let lines : ProperLines (sectionOf card) (whole d) = proper-lines turns (omega arith) (on-whole (sectionOf card) d h) in
+      let lines = proper premises narrow (on-whole (sectionOf card) d h) in
       record {
         station = refl;
         widening = accurate _ (omega (arith, lines .widening));

@@ -43,6 +43,7 @@ module _ (n : ℕ) (least : 1 ≤ n) (most : n ≤ 5) where
         shoulder-most = leb-true _ 3750 (passes (λ r. leb (r .«shoulder_width») 3750) refl);
         crown-least = leb-true 20 _ (passes (λ r. leb 20 (r .«crown_slope»)) refl);
         crown-most = leb-true _ 30 (passes (λ r. leb (r .«crown_slope») 30) refl);
+        side-least = leb-true _ _ (passes (λ r. leb (r .«crown_slope») (r .«shoulder_slope»)) refl);
         side-most = leb-true _ 60 (passes (λ r. leb (r .«shoulder_slope») 60) refl);
         added-least = leb-true 5 _ (added-passes (λ a. leb 5 a) terrain refl refl);
         added-most = leb-true _ 20 (added-passes (λ a. leb a 20) terrain refl refl);

@@ -4,21 +4,21 @@ use mathlib.Core.Path.{_≡_, ap, subst, subst⁻¹}
 use mathlib.Core.Logic.{_⊎_, inl, inr}
 use Prim.Native.Nat.{ℕ, _+_, _*_, _-_, _≤_, _<_}
 use native.Mathlib.Nat.{mul-le-mul-right, mul-pos, mul-add}
-use native.Mathlib.Decide.{ℕ-discrete, decLe}
+use native.Mathlib.Decide.{ℕ-discrete}
 use native.Mathlib.Omega.{arith}
-use borrow.Author.Tests.{le-leb, lt-leb}
 use Rattle.exact.specs.Exact.{Exact, whole, _≼_, _≺_, _≈_}
 use Rattle.exact.proofs.Ring.{times-zero}
 use Rattle.exact.proofs.Integers.{dn, is-pos}
 use Rattle.exact.proofs.Order.{above, below, le-out, ≼-refl, ≼-trans, ≺-≼-trans, ≼-≺-trans, ≼-antisym, ≺→≼, ≈→≼, ≈-sym, clash, ask}
-use Rattle.exact.proofs.Is.{Is, is-self, is-one, is-frac, is-net, is-le, le-is}
+use Rattle.exact.proofs.Is.{Is, is-self, is-one, is-net, is-le, le-is}
 use Rattle.exact.proofs.Climb.{Climb, climb-trans, gently, OnPiece, piece-climbs, piece-higher, piece-level}
 use Rattle.runoff.specs.Lines.{Section, On, joint, outerEdge, firstReached}
 use Rattle.runoff.specs.Climbing.{Level, Climbs}
+use Rattle.runoff.proofs.Slopes.{is-even, not-even, even?, joint-is}
 use Rattle.runoff.proofs.EdgePieces.{on-even, on-first, on-second}
 
 -- what the proof uses of an accepted card
-pub record Turns (added : ℕ) (x : Section) : Type 0 where
+pub record ClimbPremises (added : ℕ) (x : Section) : Type 0 where
   pub wide : 0 < x .h
   pub crowned : 0 < x .p
   pub turned : x .p ≤ x .v
@@ -28,11 +28,11 @@ pub record Turns (added : ℕ) (x : Section) : Type 0 where
 
 reached-even : (x : Section) → 3 * x .L ≤ x .h * (x .p + x .v) → firstReached x ≡ whole (x .L)
 unfolding firstReached
-reached-even x e = rw (le-leb (3 * x .L) (x .h * (x .p + x .v)) e)
+reached-even x e = rw (is-even x e)
 
 reached-two : (x : Section) → x .h * (x .p + x .v) < 3 * x .L → firstReached x ≡ joint x
 unfolding firstReached
-reached-two x e = rw (lt-leb (3 * x .L) (x .h * (x .p + x .v)) e)
+reached-two x e = rw (not-even x e)
 
 -- a station is a natural number over another
 pub station-is : {x : Section} {s : Exact} → On x s → Is s (above s) 0 (s .den)
@@ -47,7 +47,7 @@ record Rule (added : ℕ) (x : Section) (s t : Exact) : Type 0 where
   level : Level x s t → outerEdge x s ≼ outerEdge x t
   proper : 0 < outerEdge x s .den
 
-module _ {added : ℕ} {x : Section} (ok : Turns added x) where
+module _ {added : ℕ} {x : Section} (ok : ClimbPremises added x) where
   -- even: one piece
   even-rule : 3 * x .L ≤ x .h * (x .p + x .v) → {s t : Exact} → On x s → On x t → Rule added x s t
   even-rule e {s} {t} a b =
@@ -69,20 +69,17 @@ module _ {added : ℕ} {x : Section} (ok : Turns added x) where
 
   -- two-stage: a piece up to the joint, and one from there
   module _ (two : x .h * (x .p + x .v) < 3 * x .L) (d m : ℕ) (dv : x .v ≡ x .p + d) (el : 3 * x .L ≡ 2 * x .h * x .p + x .h * d + m) (mp : 0 < m) where
-    joint-is : Is (joint x) (2 * x .h * x .p) 0 3
-    joint-is = is-frac (2 * x .h * x .p) 3 (omega arith)
-
     at-joint : On x (joint x)
-    at-joint = record { fraction = omega arith; from = is-le (is-one 0) joint-is (omega arith); to = is-le joint-is (is-one (x .L)) (omega arith) }
+    at-joint = record { fraction = omega arith; from = is-le (is-one 0) (joint-is x) (omega arith); to = is-le (joint-is x) (is-one (x .L)) (omega arith) }
 
     steep : 0 < x .h * d + m
     steep = omega arith
 
     before : {u : Exact} → On x u → u ≼ joint x → OnPiece (x .c * x .q) 3 1 u (outerEdge x u)
-    before k h = on-first x (station-is k) two (ok .wide) (omega (arith, le-is (station-is k) joint-is h))
+    before k h = on-first x (station-is k) two (ok .wide) (omega (arith, le-is (station-is k) (joint-is x) h))
 
     past : {u : Exact} → On x u → joint x ≼ u → OnPiece (x .c * x .q * (x .h * d + m) + 2 * x .h * x .p * m) (3 * (x .h * d)) (x .h * d + m) u (outerEdge x u)
-    past k h = on-second x (station-is k) two (ok .wide) d m dv el mp (omega (arith, le-is joint-is (station-is k) h))
+    past k h = on-second x (station-is k) two (ok .wide) d m dv el mp (omega (arith, le-is (joint-is x) (station-is k) h))
 
     first-climbs : {u w : Exact} → On x u → On x w → w ≼ joint x → u ≼ w → Climb added u (outerEdge x u) w (outerEdge x w)
     first-climbs a b j h = piece-climbs (omega arith) (before a (≼-trans (b .fraction) h j)) (before b j) (omega (arith, ok .steep)) h
@@ -141,7 +138,7 @@ module _ {added : ℕ} {x : Section} (ok : Turns added x) where
             ≺-≼-trans (past b (≺→≼ j) .is .proper) (first-higher a at-joint self i) (second-climbs at-joint b self (≺→≼ j) .rises)
 
   rule : {s t : Exact} → On x s → On x t → Rule added x s t
-  rule {s} {t} a b = go (decLe (3 * x .L) (x .h * (x .p + x .v)))
+  rule {s} {t} a b = go (even? x)
     where
       dv : x .v ≡ x .p + (x .v - x .p)
       dv = omega (arith, ok .turned)
@@ -165,7 +162,7 @@ turn : {x : Section} {s t : Exact} → Level x s t → Level x t s
 turn l = record { same = l .same; first = l .second; second = l .first }
 
 -- the climbing rule
-pub climbs : {added : ℕ} {x : Section} {s t : Exact} → Turns added x → On x s → On x t → Climbs added x s t
+pub climbs : {added : ℕ} {x : Section} {s t : Exact} → ClimbPremises added x → On x s → On x t → Climbs added x s t
 climbs {added} {x} {s} {t} ok a b =
     record {
       fractions = (there .proper, here .proper);
@@ -191,5 +188,5 @@ climbs {added} {x} {s} {t} ok a b =
     if-so (inr l) = ≼-antisym (there .level l) (here .level (turn l))
 
 -- the farther station is not the lower
-pub rises : {added : ℕ} {x : Section} {s t : Exact} → Turns added x → On x s → On x t → s ≼ t → outerEdge x s ≼ outerEdge x t
+pub rises : {added : ℕ} {x : Section} {s t : Exact} → ClimbPremises added x → On x s → On x t → s ≼ t → outerEdge x s ≼ outerEdge x t
 rises ok a b h = rule ok a b .weak h .rises

@@ -3,9 +3,10 @@ pub mod Every
 pub mod Steps
 pub mod Clothoids
 pub mod Entries
-pub mod Turned
+pub mod Unmet
 pub mod Accepts
 pub mod RowPlaces
+pub mod MadeNumber
 pub mod Slopes
 pub mod Heights
 pub mod EdgePieces

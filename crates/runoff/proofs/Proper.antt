@@ -1,16 +1,16 @@
 -- Every line of a runoff is a fraction over a number above 0 at each of its stations.
 -- Assumes nothing.
-use Prim.Native.Nat.{ℕ, _+_, _*_, _≤_, _<_}
+use Prim.Native.Nat.{ℕ, _+_, _*_, _≤_}
 use native.Mathlib.Nat.{mul-le-mul, mul-le-mul-left}
 use native.Mathlib.Decide.{decLe}
 use native.Mathlib.Omega.{arith}
 use Rattle.exact.specs.Exact.{Exact}
 use Rattle.exact.proofs.Order.{above}
 use Rattle.exact.proofs.Is.{Is, is-one, le-is}
-use Rattle.runoff.specs.Lines.{Section, On, outerSlope, widening, outerEdge, outerBrow, innerEdge, innerBrow}
-use Rattle.runoff.proofs.Slopes.{even-is, first-is, second-is}
-use Rattle.runoff.proofs.Heights.{outer-edge, outer-brow, inner-slope, shoulder-slope, widening-is, inner-edge, inner-brow}
-use Rattle.runoff.proofs.ExactClimb.{Turns, station-is}
+use Rattle.runoff.specs.Lines.{Section, On, outerSlope, Fractions}
+use Rattle.runoff.proofs.Slopes.{even?, even-is, first-is, second-is}
+use Rattle.runoff.proofs.Heights.{outer-edge, outer-brow, inner-slope, shoulder-slope, widening-is, inner-shoulder, inner-edge, inner-brow}
+use Rattle.runoff.proofs.ExactClimb.{ClimbPremises, station-is}
 
 -- the outer slope is (m − n)/e, for some natural numbers
 record Slope (x : Section) (s : Exact) : Type 0 where
@@ -22,8 +22,8 @@ record Slope (x : Section) (s : Exact) : Type 0 where
 slope : {x : Section} {s : Exact} {m n e : ℕ} → Is (outerSlope x s) m n e → Slope x s
 slope {m = m} {n = n} {e = e} f = record { m = m; n = n; e = e; is = f }
 
-slope-at : {added : ℕ} {x : Section} {s : Exact} → Turns added x → On x s → Slope x s
-slope-at {x = x} {s} ok on = go (decLe (3 * x .L) (x .h * (x .p + x .v))) (decLe (3 * above s) (2 * x .h * x .p * s .den))
+slope-at : {added : ℕ} {x : Section} {s : Exact} → ClimbPremises added x → On x s → Slope x s
+slope-at {x = x} {s} ok on = go (even? x) (decLe (3 * above s) (2 * x .h * x .p * s .den))
   where
     at : Is s (above s) 0 (s .den)
     at = station-is on
@@ -34,23 +34,21 @@ slope-at {x = x} {s} ok on = go (decLe (3 * x .L) (x .h * (x .p + x .v))) (decLe
     go (no t) (no j) =
         slope (second-is x at (omega arith) (ok .turned) (omega (arith, mul-le-mul-left (x .h) (ok .turned))) (omega arith))
 
-pub record ProperLines (x : Section) (s : Exact) : Type 0 where
-  pub widening : 0 < widening x s .den
-  pub innerBrow : 0 < innerBrow x s .den
-  pub innerEdge : 0 < innerEdge x s .den
-  pub outerEdge : 0 < outerEdge x s .den
-  pub outerBrow : 0 < outerBrow x s .den
-
-pub proper-lines : {added : ℕ} {x : Section} {s : Exact} → Turns added x → x .W ≤ x .c → On x s → ProperLines x s
-proper-lines {x = x} {s} ok narrow on =
+pub proper : {added : ℕ} {x : Section} {s : Exact} → ClimbPremises added x → x .W ≤ x .c → On x s → Fractions x s
+proper {x = x} {s} ok narrow on =
     let at = station-is on in
     let f = slope-at ok on .is in
     let inner = inner-slope x s f in
+    let shoulder = shoulder-slope x s inner in
     let inside : above s ≤ x .L * s .den = omega (arith, le-is at (is-one (x .L)) (on .to)) in
     let left = mul-le-mul narrow inside in
     record {
+      outerSlope = f .proper;
+      innerSlope = inner .proper;
       widening = widening-is x at (ok .long) .proper;
-      innerBrow = inner-brow x at (ok .long) inner left (shoulder-slope x s inner) .proper;
+      innerShoulder = inner-shoulder x at (ok .long) left .proper;
+      shoulderSlope = shoulder .proper;
+      innerBrow = inner-brow x at (ok .long) inner left shoulder .proper;
       innerEdge = inner-edge x at (ok .long) inner .proper;
       outerEdge = outer-edge x s f .proper;
       outerBrow = outer-brow x s f .proper;

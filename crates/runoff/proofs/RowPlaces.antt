@@ -1,9 +1,14 @@
--- The count of rows before the last counts the multiples of the step below the length, and no other.
+-- The count of rows before the last counts the multiples of the step below the length, and no other; and the rows' stations rise to the length.
 -- Assumes nothing.
-use Prim.Native.Nat.{suc, _+_, _*_, _-_, _≤_, _<_}
-use native.Mathlib.Nat.{le-div-iff-mul-le, suc-mul}
+use mathlib.Core.Path.{_≡_, refl}
+use mathlib.Core.Bool.{Bool, true, false, cond}
+use Prim.Native.Nat.{ℕ, suc, min, _+_, _*_, _-_, _≤_, _<_}
+use native.Mathlib.Nat.{le-div-iff-mul-le, suc-mul, mul-le-mul-right}
 use native.Mathlib.Omega.{arith}
-use Rattle.runoff.specs.Rows.{multiplesBelow, CountsMultiples}
+use lib.Dec.{ltb}
+use borrow.Author.Tests.{ltb-true, ltb-false}
+use Rattle.runoff.specs.declared.Card.{Card}
+use Rattle.runoff.specs.Rows.{multiplesBelow, CountsMultiples, stationOf}
 
 pub counts-multiples : CountsMultiples
 counts-multiples L step i some = (below, counted) where
@@ -14,3 +19,18 @@ counts-multiples L step i some = (below, counted) where
 
   counted : i * step < L → i < multiplesBelow L step
   counted h = le-div-iff-mul-le some .1 (omega (arith, suc-mul i step))
+
+-- i × step or L, whichever is less
+capped : (b : Bool) (n L : ℕ) → ltb n L ≡ b → cond b n L ≡ min n L
+capped true n L e = let h = ltb-true n L e in omega arith
+capped false n L e = let h = ltb-false n L e in omega arith
+
+station-is-least : (card : Card) (i : ℕ) → stationOf card i ≡ min (i * card .step) (card .clothoid)
+station-is-least card i = capped _ (i * card .step) (card .clothoid) refl
+
+-- no row stands past the length, and no later one before an earlier one
+pub station-most : (card : Card) (i : ℕ) → stationOf card i ≤ card .clothoid
+station-most card i = omega (arith, station-is-least card i)
+
+pub station-rises : (card : Card) (i j : ℕ) → i ≤ j → stationOf card i ≤ stationOf card j
+station-rises card i j h = omega (arith, station-is-least card i, station-is-least card j, mul-le-mul-right (card .step) h)

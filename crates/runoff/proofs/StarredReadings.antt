@@ -1,7 +1,7 @@
 -- The starred readings, and the reasons at their edges, computed from the definitions.
 -- Assumes nothing.
 use mathlib.Core.Path.{_≡_, refl, ap, _∙_}
-use mathlib.Core.Bool.{Bool, true, false, cond}
+use mathlib.Core.Bool.{Bool, true, false, not, cond}
 use mathlib.Core.List.{List, [], _∷_}
 use Prim.Native.Nat.{ℕ}
 use borrow.Author.Tests.{ltb-true, not-true}
@@ -12,19 +12,23 @@ use Rattle.runoff.specs.Lines.{outerSlope, outerEdge, outerBrow, innerSl
 use Rattle.runoff.specs.Rows.{row, joined, rows}
 use Rattle.runoff.specs.declared.Card.{Card}
 use Rattle.runoff.specs.Refusal.{Test, first, ownTests, refusal}
-use Rattle.runoff.specs.Table.{replyNumber}
-use Rattle.runoff.specs.Readings.{Readings, Gives, among, only, others}
+use Rattle.runoff.specs.Table.{replyNumber, replyTo, tableAfter}
+use Rattle.runoff.specs.Readings.{Readings, Gives, among, keep, others}
 use Rattle.runoff.specs.Boundaries.{edges, Boundaries}
 use Rattle.runoff.proofs.Every.{every, here, later}
 use Rattle.runoff.proofs.Accepts.{numbered, zero-unmet}
 
--- where no other test is met, the first one met is among those in ns
+-- the tests whose numbers are in ns
+abbrev only : List ℕ → List Test → List Test
+only ns ts = keep (among ns) ts
+
+-- where no other test is met, the first one met is among those
 first-among : (ns : List ℕ) (ts : List Test) → every numbered ts ≡ true → first (others ns ts) ≡ 0 → first ts ≡ first (only ns ts)
 first-among ns [] t e = refl
 first-among ns (x ∷ xs) t e = go (among ns (x .number)) (first-among ns xs (later numbered x xs t)) e
   where
     go :
-        (b : Bool) → (first (others ns xs) ≡ 0 → first xs ≡ first (only ns xs)) → first (cond b (others ns xs) (x ∷ others ns xs)) ≡ 0 →
+        (b : Bool) → (first (others ns xs) ≡ 0 → first xs ≡ first (only ns xs)) → first (cond (not b) (x ∷ others ns xs) (others ns xs)) ≡ 0 →
         first (x ∷ xs) ≡ first (cond b (x ∷ only ns xs) (only ns xs))
     go true rest e = ap (cond (x .met) (x .number)) (rest e)
     go false rest e =
@@ -36,10 +40,11 @@ unfolding refusal
 gives {ns = ns} {x} e = record { gives = λ none. first-among ns (ownTests x) refl none ∙ e }
 
 pub readings : Readings
-unfolding rounded profiles profileAt clothoids leastLength outerSlope outerEdge outerBrow innerSlope widening innerEdge innerShoulder shoulderSlope innerBrow row joined rows refusal
+unfolding rounded profiles profileAt clothoids leastLength outerSlope outerEdge outerBrow innerSlope widening innerEdge innerShoulder shoulderSlope innerBrow row joined rows refusal replyNumber replyTo
 readings =
     record {
-      ramp = refl;
+      ramp-reply = refl;
+      ramp-rows = refl;
       added-met = λ W step unit. gives refl;
       added-passes = λ W step unit. gives refl;
       even = λ terrain R W step unit. refl;
@@ -60,5 +65,15 @@ readings =
     }
 
 pub boundaries : Boundaries
-unfolding edges profiles profileAt clothoids leastLength refusal replyNumber
-boundaries = record { own = refl; table-48 = refl; table-49 = refl; table-none = refl }
+unfolding rounded profiles profileAt clothoids leastLength outerSlope outerEdge outerBrow innerSlope widening innerEdge innerShoulder shoulderSlope innerBrow row joined rows refusal replyNumber replyTo tableAfter edges
+boundaries =
+    record {
+      own = refl;
+      table-48 = refl;
+      table-49 = refl;
+      table-none = refl;
+      kept-after = refl;
+      kept-short = refl;
+      six-rows = refl;
+      steep-row = refl;
+    }

@@ -11,7 +11,7 @@ use Rattle.exact.proofs.Rounded.{rounding-laws}
 use Rattle.runoff.specs.Lines.{Section, On, outerEdge}
 use Rattle.runoff.specs.Rows.{tie, inUnits}
 use Rattle.runoff.specs.Climbing.{Climbs, Tabled, tabledHeight}
-use Rattle.runoff.proofs.ExactClimb.{Turns, climbs, rises}
+use Rattle.runoff.proofs.ExactClimb.{ClimbPremises, climbs, rises}
 
 whole-le : (d e : ℕ) → d ≤ e → whole d ≼ whole e
 whole-le d e h = is-le (is-one d) (is-one e) (omega arith)
@@ -19,7 +19,7 @@ whole-le d e h = is-le (is-one d) (is-one e) (omega arith)
 pub on-whole : (x : Section) (d : ℕ) → d ≤ x .L → On x (whole d)
 on-whole x d h = record { fraction = omega arith; from = whole-le 0 d (omega arith); to = whole-le d (x .L) h }
 
-module _ {added : ℕ} {x : Section} (ok : Turns added x) (unit : ℕ) (some : 0 < unit) (d e : ℕ) (h : d ≤ e) (to : e ≤ x .L) where
+module _ {added : ℕ} {x : Section} (ok : ClimbPremises added x) (unit : ℕ) (some : 0 < unit) (d e : ℕ) (h : d ≤ e) (to : e ≤ x .L) where
   abbrev u : ℕ
   u = 1000 * unit
 
@@ -38,6 +38,7 @@ module _ {added : ℕ} {x : Section} (ok : Turns added x) (unit : ℕ) (some : 0
   pub tabled : Tabled added unit x d e (inUnits unit X) (inUnits unit Y)
   tabled =
       record {
+        fractions = rule .fractions;
         earlier = laws .half X (rule .fractions .0);
         later = laws .half Y (rule .fractions .1);
         order = laws .monotone X Y (rule .fractions .0) (rule .fractions .1) (rises ok (on-whole x d (omega arith)) (on-whole x e to) (whole-le d e h));

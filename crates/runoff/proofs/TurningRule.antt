@@ -1,31 +1,30 @@
--- The outer slope turns as the paper words it, and the outer edge climbs at 3‰ up to the joint.
+-- The outer slope turns as the paper words it, the outer edge climbs at 3‰ up to the joint, and heights count from the inner brow at 0.
 -- Assumes nothing.
 use mathlib.Core.Path.{_≡_, ap}
 use mathlib.Core.Bool.{false}
 use Prim.Native.Nat.{ℕ, _+_, _*_, _-_, _≤_, _<_}
-use native.Mathlib.Nat.{mul-le-mul-left}
-use native.Mathlib.Decide.{decLe}
+use native.Mathlib.Nat.{mul-le-mul-left, mul-le-mul-right, sub-zero}
 use native.Mathlib.Omega.{arith}
 use borrow.Author.Tests.{leb-false}
 use Rattle.exact.specs.Exact.{Exact, whole, minus, _⊖_, _⊗_, _≼_, _≈_}
 use Rattle.exact.proofs.Ring.{ring}
-use Rattle.exact.proofs.Is.{Is, is-one, is-minus, is-frac, is-times, is-diff, is-eq, le-is}
+use Rattle.exact.proofs.Is.{Is, is-one, is-minus, is-net, is-times, is-diff, is-eq, le-is}
 use Rattle.exact.proofs.Climb.{OnPiece}
-use Rattle.runoff.specs.Lines.{Section, On, isEven, joint, outerSlope, outerEdge}
+use Rattle.runoff.specs.Lines.{Section, On, isEven, joint, outerSlope, outerEdge, innerBrow}
 use Rattle.runoff.specs.Turning.{Turning, TurningTheorem}
-use Rattle.runoff.proofs.Slopes.{even-is, first-is, second-is}
+use Rattle.runoff.proofs.Slopes.{even?, joint-is, even-is, first-is, second-is}
+use Rattle.runoff.proofs.Heights.{inner-slope, shoulder-slope, inner-brow}
 use Rattle.runoff.proofs.EdgePieces.{on-first}
-use Rattle.runoff.proofs.ExactClimb.{Turns, station-is}
-use Rattle.runoff.proofs.ClimbingRule.{turns}
+use Rattle.runoff.proofs.ExactClimb.{ClimbPremises, station-is}
+use Rattle.runoff.proofs.ClimbingRule.{premises, narrow}
+use Rattle.runoff.proofs.Proper.{proper}
+use Rattle.runoff.proofs.Accepts.{accepted-rule}
 
 -- two heights on a piece that climbs at 3‰
 three : {α : ℕ} {s t X Y : Exact} → OnPiece α 3 1 s X → OnPiece α 3 1 t Y → Y ⊖ X ≈ whole 3 ⊗ (t ⊖ s)
 three f g = is-eq (is-diff (g .is) (f .is)) (is-times 3 (is-diff (g .at) (f .at))) (simp ring (omega arith))
 
-module _ {added : ℕ} {x : Section} (ok : Turns added x) where
-  joint-is : Is (joint x) (2 * x .h * x .p) 0 3
-  joint-is = is-frac (2 * x .h * x .p) 3 (omega arith)
-
+module _ {added : ℕ} {x : Section} (ok : ClimbPremises added x) where
   two : isEven x ≡ false → x .h * (x .p + x .v) < 3 * x .L
   two e = leb-false (3 * x .L) (x .h * (x .p + x .v)) e
 
@@ -45,17 +44,31 @@ module _ {added : ℕ} {x : Section} (ok : Turns added x) where
           let d : v - p + p ≡ v = omega arith in
           rw e (omega (arith, ap (λ (n : ℕ). n * E) d))
 
-  turning : Turning x
-  turning =
+  -- at 0 the inner slope is p, the shoulder slope q, and nothing is widened
+  level : {m n e : ℕ} → Is (outerSlope x (whole 0)) m n e → m ≤ n → x .p ≤ x .q → innerBrow x (whole 0) ≈ whole 0
+  level {m} {n} {e} f none steeper =
+      let inner = is-net {a′ = x .p * e} {b′ = 0} (inner-slope x (whole 0) f) (omega arith) in
+      let more : x .p * e ≤ x .q * e = mul-le-mul-right e steeper in
+      let shoulder = is-net {a′ = x .q * e} {b′ = 0} (shoulder-slope x (whole 0) inner) (omega arith) in
+      is-eq (inner-brow x (is-one 0) (ok .long) inner (omega arith) shoulder) (is-one 0) (simp (ring, sub-zero) (omega arith))
+
+  datum : x .p ≤ x .q → Dec (3 * x .L ≤ x .h * (x .p + x .v)) → innerBrow x (whole 0) ≈ whole 0
+  datum steeper (yes e) = level (even-is x (is-one 0) (ok .long) e) (omega arith) steeper
+  datum steeper (no e) = level (first-is x (is-one 0) (omega arith) (ok .wide) (omega arith)) (omega arith) steeper
+
+  turning : x .W ≤ x .c → x .p ≤ x .q → Turning x
+  turning narrow steeper =
       record {
-        starts = starts (decLe (3 * x .L) (x .h * (x .p + x .v)));
-        ends = ends (decLe (3 * x .L) (x .h * (x .p + x .v)));
-        at-joint = λ e. is-eq (first-is x joint-is (two e) (ok .wide) (omega arith)) (is-one (x .p)) (omega arith);
+        fractions = λ s on. proper ok narrow on;
+        starts = starts (even? x);
+        ends = ends (even? x);
+        at-joint = λ e. is-eq (first-is x (joint-is x) (two e) (ok .wide) (omega arith)) (is-one (x .p)) (omega arith);
         first-stage = λ e s t a b i j. three (on a e i) (on b e j);
+        datum = datum steeper (even? x);
       }
     where
       on : {u : Exact} → On x u → isEven x ≡ false → u ≼ joint x → OnPiece (x .c * x .q) 3 1 u (outerEdge x u)
-      on k e i = on-first x (station-is k) (two e) (ok .wide) (omega (arith, le-is (station-is k) joint-is i))
+      on k e i = on-first x (station-is k) (two e) (ok .wide) (omega (arith, le-is (station-is k) (joint-is x) i))
 
 pub turning-rule : TurningTheorem
-turning-rule card passes = turning (turns card passes)
+turning-rule card passes = turning (premises card passes) (narrow card passes) (accepted-rule card .sizes passes .side-least)

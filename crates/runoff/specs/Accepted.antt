@@ -39,6 +39,7 @@ pub record Sizes (r : Profile) (added : ℕ) : Type 0 where
   pub shoulder-most : r .«shoulder_width» ≤ 3750
   pub crown-least : 20 ≤ r .«crown_slope»
   pub crown-most : r .«crown_slope» ≤ 30
+  pub side-least : r .«crown_slope» ≤ r .«shoulder_slope»
   pub side-most : r .«shoulder_slope» ≤ 60
   pub added-least : 5 ≤ added
   pub added-most : added ≤ 20

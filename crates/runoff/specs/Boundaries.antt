@@ -1,13 +1,15 @@
--- The reasons at their edges: a card on either side of every bound, the extreme cards, and cards that meet two reasons at once.
--- The numbers are worked out by hand from document 01's table of reasons.
+-- The reasons at their edges: a card on either side of every bound, the extreme cards, and cards that meet two reasons at once;
+-- and a table at its edges. The numbers come from document 01's tables and from 002, not from the definitions.
 -- Assumes nothing.
 use mathlib.Core.Path.{_≡_}
-use mathlib.Core.List.{List, [], _∷_, map}
-use Prim.Native.Nat.{ℕ}
+use mathlib.Core.List.{List, [], _∷_, _++_, map}
+use Prim.Native.Nat.{ℕ, zero, suc}
+use lib.IntN.{ℤ, pos, negℤ}
 use Rattle.runoff.specs.declared.Card.{Card}
+use Rattle.runoff.specs.Rows.{cells, rowOf, rows}
 use Rattle.runoff.specs.Refusal.{refusal}
-use Rattle.runoff.specs.Table.{replyNumber}
-use Rattle.runoff.specs.Readings.{card}
+use Rattle.runoff.specs.Table.{replyTo, tableAfter}
+use Rattle.runoff.specs.Readings.{card, ramp}
 
 -- a card and the number that it gives
 pub record Edge : Type 0 where
@@ -43,6 +45,12 @@ edges =
     edge (card 3 1 60 120000 40 400 20000 10) 0 ∷
     edge (card 1 1 124 120000 40 400 20000 10) 3 ∷
     edge (card 1 1 125 120000 40 400 20000 10) 0 ∷
+    edge (card 2 1 99 120000 40 400 20000 10) 3 ∷
+    edge (card 2 1 100 120000 40 400 20000 10) 0 ∷
+    edge (card 4 1 29 120000 40 400 20000 10) 3 ∷
+    edge (card 4 1 30 120000 40 400 20000 10) 0 ∷
+    edge (card 5 1 29 120000 40 400 20000 10) 3 ∷
+    edge (card 5 1 30 120000 40 400 20000 10) 0 ∷
     edge (card 3 1 2000 120000 40 0 20000 10) 0 ∷
     edge (card 3 1 2001 120000 40 0 20000 10) 3 ∷
     edge (card 3 1 0 120000 40 400 20000 10) 3 ∷
@@ -69,6 +77,12 @@ edges =
     -- 7, narrow shoulder: c less W is below m
     edge (card 3 1 700 120000 40 1000 20000 10) 0 ∷
     edge (card 3 1 700 120000 40 1001 20000 10) 7 ∷
+    edge (card 1 1 700 120000 40 2250 20000 10) 0 ∷
+    edge (card 1 1 700 120000 40 2251 20000 10) 7 ∷
+    edge (card 4 1 700 120000 40 1000 20000 10) 0 ∷
+    edge (card 4 1 700 120000 40 1001 20000 10) 7 ∷
+    edge (card 5 1 700 120000 40 750 20000 10) 0 ∷
+    edge (card 5 1 700 120000 40 751 20000 10) 7 ∷
     -- 8, added slope: h × (p + v) above added slope × L
     edge (card 1 1 125 60000 60 0 20000 10) 0 ∷
     edge (card 1 1 125 59999 60 0 20000 10) 8 ∷
@@ -87,6 +101,10 @@ edges =
     edge (card 3 1 700 120000 40 400 20000 11) 10 ∷
     edge (card 3 1 700 120000 40 400 20000 greatest) 10 ∷
     -- cards of the starred readings
+    edge ramp 0 ∷
+    edge (card 2 1 300 93333 60 0 20000 1) 0 ∷
+    edge (card 2 1 300 93334 60 0 20000 1) 0 ∷
+    edge (card 1 1 2000 100000 20 0 20000 1) 0 ∷
     edge (card 1 1 125 55000 60 0 20000 1) 8 ∷
     edge (card 1 1 125 60000 60 0 20000 1) 0 ∷
     edge (card 4 2 100 50000 29 0 20000 1) 5 ∷
@@ -105,9 +123,25 @@ edges =
     edge (card 1 1 125 59999 60 0 0 10) 8 ∷
     edge (card 3 1 700 120000 40 400 0 0) 9 ∷ []
 
--- THEOREM (proofs/StarredReadings.antt): each card of the list gives its number; and 11, short table: 7 rows need 49 numbers
+-- a lent table of n numbers, each 9
+abbrev pub nines : ℕ → List ℤ
+nines zero = []
+nines (suc n) = pos 9 ∷ nines n
+
+-- THEOREM (proofs/StarredReadings.antt)
 pub record Boundaries : Type 0 where
+  -- each card of the list gives its number
   pub own : map (λ (e : Edge). refusal (e .of)) edges ≡ map (λ (e : Edge). e .gives) edges
-  pub table-48 : replyNumber (card 3 1 400 110000 40 400 20000 10) 48 ≡ 11
-  pub table-49 : replyNumber (card 3 1 400 110000 40 400 20000 10) 49 ≡ 0
-  pub table-none : replyNumber (card 3 1 400 110000 40 400 0 10) 0 ≡ 9
+  -- 11, short table: 7 rows need 49 numbers; a card's own reason comes before
+  pub table-48 : replyTo (card 3 1 400 110000 40 400 20000 10) 48 ≡ record { number = 11; count = 0 }
+  pub table-49 : replyTo (card 3 1 400 110000 40 400 20000 10) 49 ≡ record { number = 0; count = 7 }
+  pub table-none : replyTo (card 3 1 400 110000 40 400 0 10) 0 ≡ record { number = 9; count = 0 }
+  -- the numbers after the last row stay, and a table that is too short stays whole
+  pub kept-after : tableAfter ramp (nines 23) ≡ rows ramp ++ nines 2
+  pub kept-short : tableAfter ramp (nines 20) ≡ nines 20
+  -- no second row at L when the step divides L
+  pub six-rows : replyTo (card 3 1 400 100000 40 400 20000 10) 49 ≡ record { number = 0; count = 6 }
+  -- the full slope above q: 002, sheet 50, III, R 200, L 70, W 0.80
+  pub steep-row :
+      cells (rowOf (card 2 1 200 70000 60 800 20000 10) 70000)
+      ≡ pos 70000 ∷ pos 80 ∷ negℤ (pos 19) ∷ negℤ (pos 9) ∷ pos 17 ∷ pos 38 ∷ pos 53 ∷ []

@@ -9,7 +9,7 @@ use Rattle.exact.specs.Exact.{Exact, frac, whole, _⊕_, _⊖_, _⊗_, _≼_, _
 use Rattle.exact.specs.Rounding.{units}
 use Rattle.runoff.specs.declared.Card.{Card}
 use Rattle.runoff.specs.Lines.{Section, sectionOf, On, outerEdge, firstReached}
-use Rattle.runoff.specs.Rows.{rowOf}
+use Rattle.runoff.specs.Rows.{stationOf, rowOf}
 use Rattle.runoff.specs.Refusal.{refusal}
 use Rattle.runoff.specs.Accepted.{addedOf}
 
@@ -34,10 +34,15 @@ tabledHeight unit n = units (1000 * unit) n
 -- the tabled heights n at d and k at e, d not past e: each within half a unit of the exact one at its station;
 -- the later not lower than the earlier, nor higher by more than one unit plus the added slope times the distance
 pub record Tabled (added unit : ℕ) (x : Section) (d e : ℕ) (n k : ℤ) : Type 0 where
+  pub fractions : (0 < outerEdge x (whole d) .den) × (0 < outerEdge x (whole e) .den)
   pub earlier : distance (outerEdge x (whole d)) (tabledHeight unit n) ≼ frac (1000 * unit) 2
   pub later : distance (outerEdge x (whole e)) (tabledHeight unit k) ≼ frac (1000 * unit) 2
   pub order : n ≤ℤ k
   pub gentle : tabledHeight unit k ⊖ tabledHeight unit n ≼ whole (1000 * unit) ⊕ whole added ⊗ (whole e ⊖ whole d)
+
+-- the outer edges of a card's rows at the stations d and e
+abbrev pub TabledAt : Card → ℕ → ℕ → Type 0
+TabledAt card d e = Tabled (addedOf card) (card .unit) (sectionOf card) d e (rowOf card d .outerEdge) (rowOf card e .outerEdge)
 
 -- the climbing rule of a card
 pub record ClimbingRule (card : Card) : Type 0 where
@@ -46,7 +51,9 @@ pub record ClimbingRule (card : Card) : Type 0 where
   -- for the rows at any two stations
   pub tabled :
       (d e : ℕ) → d ≤ e → e ≤ card .clothoid →
-      Tabled (addedOf card) (card .unit) (sectionOf card) d e (rowOf card d .outerEdge) (rowOf card e .outerEdge)
+      TabledAt card d e
+  -- for any two rows of its table, neighbours or not, with the stations that the rule for rows gives their places
+  pub rows : (i j : ℕ) → i ≤ j → TabledAt card (stationOf card i) (stationOf card j)
 
 -- THEOREM (proofs/ClimbingRule.antt): it holds of every accepted runoff, one whose card none of its own reasons refuses
 abbrev pub ClimbingTheorem : Type 0

@@ -28,6 +28,7 @@ lengthAbove [] r = 0
 lengthAbove (e ∷ es) r = cond (leb r (e .radius)) (e .length) (lengthAbove es r)
 
 -- between two listed radii the longer of the two lengths holds; at a listed one both are its own
+-- the paper leaves the others free: here a radius below 30 has 30 m, one above 2000 has 100 m, and no accepted card has such a radius
 unfoldable pub leastLength : ℕ → ℕ
 leastLength r = max (lengthBelow 0 clothoids r) (lengthAbove clothoids r)
 

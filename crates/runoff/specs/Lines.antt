@@ -52,8 +52,14 @@ abbrev pub isEven : Section → Bool
 isEven x = leb (3 * x .L) (x .h * (x .p + x .v))
 
 -- the joint of the two stages, where the outer slope is p: station 2 × h × p / 3
+abbrev pub jointNum : Section → ℕ
+jointNum x = 2 * x .h * x .p
+
+abbrev pub jointDen : ℕ
+jointDen = 3
+
 abbrev pub joint : Section → Exact
-joint x = frac (2 * x .h * x .p) 3
+joint x = frac (jointNum x) jointDen
 
 -- even: the outer slope goes in a straight line from −p at 0 to v at L
 abbrev pub evenSlope : Section → Exact → Exact
@@ -102,6 +108,18 @@ shoulderSlope x s = greater (whole (x .q)) (innerSlope x s)
 unfoldable pub innerBrow : Section → Exact → Exact
 innerBrow x s = innerEdge x s ⊖ innerShoulder x s ⊗ shoulderSlope x s
 
--- "first reached", where the outer slope is v if v is p: station L in the even case and 2 × h × p / 3 in the two-stage case
+-- "first reached": where the outer slope first is v, when v equals p: station L in the even case and 2 × h × p / 3 in the two-stage case
 unfoldable pub firstReached : Section → Exact
 firstReached x = cond (isEven x) (whole (x .L)) (joint x)
+
+-- all of these are exact fractions over a number above nought
+pub record Fractions (x : Section) (s : Exact) : Type 0 where
+  pub outerSlope : 0 < outerSlope x s .den
+  pub innerSlope : 0 < innerSlope x s .den
+  pub widening : 0 < widening x s .den
+  pub innerShoulder : 0 < innerShoulder x s .den
+  pub shoulderSlope : 0 < shoulderSlope x s .den
+  pub innerBrow : 0 < innerBrow x s .den
+  pub innerEdge : 0 < innerEdge x s .den
+  pub outerEdge : 0 < outerEdge x s .den
+  pub outerBrow : 0 < outerBrow x s .den

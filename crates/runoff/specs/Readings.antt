@@ -2,16 +2,17 @@
 -- Numbers left out of a reading are any numbers such that no other refusal applies, or any numbers at all where nothing depends on them.
 -- Assumes nothing.
 use mathlib.Core.Path.{_≡_}
-use mathlib.Core.Bool.{Bool, true, false, cond, _||_}
+use mathlib.Core.Bool.{Bool, true, false, not, cond, _||_}
 use mathlib.Core.List.{List, [], _∷_}
 use Prim.Native.Nat.{ℕ}
 use lib.Dec.{eqb}
-use lib.IntN.{ℤ, pos, negsuc}
+use lib.IntN.{ℤ, pos, negℤ}
 use Rattle.runoff.specs.declared.Card.{Card}
 use Rattle.runoff.specs.Clothoid.{leastLength}
 use Rattle.runoff.specs.Lines.{sectionOf, isEven}
 use Rattle.runoff.specs.Rows.{rowOf, rows}
 use Rattle.runoff.specs.Refusal.{Test, first, ownTests, refusal}
+use Rattle.runoff.specs.Table.{replyTo}
 
 -- a card's eight numbers in their order
 abbrev pub card : ℕ → ℕ → ℕ → ℕ → ℕ → ℕ → ℕ → ℕ → Card
@@ -27,18 +28,21 @@ card profile terrain R L v W step unit =
       unit = unit;
     }
 
--- the reasons whose numbers are in ns, and all others
+abbrev pub ramp : Card
+ramp = card 5 1 30 30000 60 600 20000 1
+
+-- n is one of ns
 abbrev pub among : List ℕ → ℕ → Bool
 among [] n = false
 among (k ∷ ks) n = eqb n k || among ks n
 
-abbrev pub only : List ℕ → List Test → List Test
-only ns [] = []
-only ns (t ∷ ts) = cond (among ns (t .number)) (t ∷ only ns ts) (only ns ts)
+-- the reasons whose numbers are not in ns
+abbrev pub keep : (ℕ → Bool) → List Test → List Test
+keep f [] = []
+keep f (t ∷ ts) = cond (f (t .number)) (t ∷ keep f ts) (keep f ts)
 
 abbrev pub others : List ℕ → List Test → List Test
-others ns [] = []
-others ns (t ∷ ts) = cond (among ns (t .number)) (others ns ts) (t ∷ others ns ts)
+others ns ts = keep (λ (n : ℕ). not (among ns n)) ts
 
 -- if no reason of the card but those in ns is met, the card gives n
 pub record Gives (n : ℕ) (ns : List ℕ) (x : Card) : Type 0 where
@@ -51,12 +55,13 @@ outerEdges x (d ∷ ds) = rowOf x d .outerEdge ∷ outerEdges x ds
 
 -- THEOREM (proofs/StarredReadings.antt)
 pub record Readings : Type 0 where
-  -- the RAMP rows
-  pub ramp :
-      rows (card 5 1 30 30000 60 600 20000 1)
+  -- the RAMP rows, three of them, in a table that they fill
+  pub ramp-reply : replyTo ramp 21 ≡ record { number = 0; count = 3 }
+  pub ramp-rows :
+      rows ramp
       ≡ pos 0 ∷ pos 0 ∷ pos 0 ∷ pos 105 ∷ pos 172 ∷ pos 105 ∷ pos 52 ∷
       pos 20000 ∷ pos 400 ∷ pos 12 ∷ pos 93 ∷ pos 172 ∷ pos 240 ∷ pos 292 ∷
-      pos 30000 ∷ pos 600 ∷ negsuc 67 ∷ pos 1 ∷ pos 172 ∷ pos 307 ∷ pos 412 ∷ []
+      pos 30000 ∷ pos 600 ∷ negℤ (pos 68) ∷ pos 1 ∷ pos 172 ∷ pos 307 ∷ pos 412 ∷ []
   -- profile 1, R 125, v 60, level: L 55000 gives 8; L 60000 passes
   pub added-met : (W step unit : ℕ) → Gives 8 (8 ∷ []) (card 1 1 125 55000 60 W step unit)
   pub added-passes : (W step unit : ℕ) → Gives 0 (8 ∷ []) (card 1 1 125 60000 60 W step unit)
@@ -70,7 +75,7 @@ pub record Readings : Type 0 where
       ≡ pos 10 ∷ pos 22 ∷ pos 23 ∷ pos 26 ∷ pos 28 ∷ []
   -- the same card at 120000: inner edge 2, inner brow −6
   pub inner-edge : (terrain step : ℕ) → rowOf (card 3 terrain 700 120000 40 400 step 10) 120000 .innerEdge ≡ pos 2
-  pub inner-brow : (terrain step : ℕ) → rowOf (card 3 terrain 700 120000 40 400 step 10) 120000 .innerBrow ≡ negsuc 5
+  pub inner-brow : (terrain step : ℕ) → rowOf (card 3 terrain 700 120000 40 400 step 10) 120000 .innerBrow ≡ negℤ (pos 6)
   -- profile 1, R 2000, L 100000, v 20: outer edge 150, 300, 300 mm at 0, 50000, 100000
   pub crown-slope :
       (terrain W step : ℕ) →

@@ -7,7 +7,7 @@ use lib.ListN.{drop}
 use borrow.Author.Needs.{needs}
 use Rattle.runoff.specs.Refusal.{Test, first, ownTests, refusal}
 use Rattle.runoff.proofs.Steps.{Says, at-start, passed, refused}
-use Rattle.runoff.proofs.Turned.{not-outside}
+use Rattle.runoff.proofs.Unmet.{not-outside}
 use Rattle.runoff.proofs.check_card.Statement.{statement}
 use Rattle.runoff.proofs.check_card.Tie as tie
 

@@ -9,7 +9,7 @@ use borrow.Author.Needs.{needs}
 use Rattle.runoff.specs.Refusal.{Test, first, testsBy}
 use Rattle.runoff.proofs.Clothoids.{at-most-120}
 use Rattle.runoff.proofs.Steps.{Says, at-start, passed, refused}
-use Rattle.runoff.proofs.Turned.{not-outside}
+use Rattle.runoff.proofs.Unmet.{not-outside}
 use Rattle.runoff.proofs.check_curve.Statement.{statement}
 use Rattle.runoff.proofs.check_curve.Tie as tie
 

@@ -4,19 +4,19 @@ use mathlib.Core.Path.{_≡_}
 use Prim.Native.Nat.{_+_, _*_, _≤_, _<_}
 use native.Mathlib.Omega.{arith}
 use borrow.Author.Needs.{needs}
-use borrow.Author.Tests.{le-leb, lt-leb}
 use Rattle.runoff.specs.declared.Stages.the-variants.{Even, TwoStage}
-use Rattle.runoff.specs.Lines.{Section, sectionBy}
+use Rattle.runoff.specs.Lines.{Section, sectionBy, jointNum, jointDen}
 use Rattle.runoff.specs.Runoff.{stagesOf}
+use Rattle.runoff.proofs.Slopes.{is-even, not-even}
 use Rattle.runoff.proofs.Product.{product-below}
 use Rattle.runoff.proofs.stages_of.Statement.{statement}
 use Rattle.runoff.proofs.stages_of.Tie as tie
 
 evenly : (x : Section) → 3 * x .L ≤ x .h * (x .p + x .v) → Even ≡ stagesOf x
-evenly x h = rw (le-leb (3 * x .L) (x .h * (x .p + x .v)) h)
+evenly x h = rw (is-even x h)
 
-in-two : (x : Section) → x .h * (x .p + x .v) < 3 * x .L → TwoStage (2 * x .h * x .p) 3 ≡ stagesOf x
-in-two x h = rw (lt-leb (3 * x .L) (x .h * (x .p + x .v)) h)
+in-two : (x : Section) → x .h * (x .p + x .v) < 3 * x .L → TwoStage (jointNum x) jointDen ≡ stagesOf x
+in-two x h = rw (not-even x h)
 
 abbrev section : tie.Start → Section
 section s = sectionBy (s .args .p) (s .args .card)

@@ -9,7 +9,7 @@ use Rattle.exact.specs.Exact.{Exact}
 use Rattle.exact.proofs.Ring.{ring}
 use Rattle.exact.proofs.Is.{Is, is-as, is-net}
 use Rattle.exact.proofs.Climb.{OnPiece}
-use Rattle.runoff.specs.Lines.{Section, outerEdge}
+use Rattle.runoff.specs.Lines.{Section, jointNum, outerEdge}
 use Rattle.runoff.proofs.Slopes.{even-is, first-is, second-is}
 use Rattle.runoff.proofs.Heights.{outer-edge}
 
@@ -42,28 +42,25 @@ module _ (x : Section) {s : Exact} {a b : ℕ} (at : Is s a 0 b) where
 
   module _ (two : x .h * (x .p + x .v) < 3 * x .L) where
     -- two-stage, up to the joint: c q at 0, and 3 more for each mm
-    first-piece : 0 < x .h → 3 * a ≤ 2 * x .h * x .p * b → Is (outerEdge x s) (x .c * x .q * b + 3 * a) 0 (1 * b)
+    first-piece : 0 < x .h → 3 * a ≤ jointNum x * b → Is (outerEdge x s) (x .c * x .q * b + 3 * a) 0 (1 * b)
     first-piece h j = is-as (outer-edge x s (first-is x at two h j)) (omega (arith, at .over)) (simp ring (omega arith))
 
-    pub on-first : 0 < x .h → 3 * a ≤ 2 * x .h * x .p * b → OnPiece (x .c * x .q) 3 1 s (outerEdge x s)
+    pub on-first : 0 < x .h → 3 * a ≤ jointNum x * b → OnPiece (x .c * x .q) 3 1 s (outerEdge x s)
     on-first h j = record { a = a; b = b; at = at; is = first-piece h j }
 
     -- two-stage, from the joint on: the first stage's height is on this piece too where the two meet
-    module _ (h : 0 < x .h) (d m : ℕ) (dv : x .v ≡ x .p + d) (el : 3 * x .L ≡ 2 * x .h * x .p + x .h * d + m) (mp : 0 < m) where
-      abbrev J : ℕ
-      J = 2 * x .h * x .p
-
+    module _ (h : 0 < x .h) (d m : ℕ) (dv : x .v ≡ x .p + d) (el : 3 * x .L ≡ jointNum x + x .h * d + m) (mp : 0 < m) where
       abbrev E : ℕ
       E = x .h * d + m
 
-      pub on-second : J * b ≤ 3 * a → OnPiece (x .c * x .q * E + J * m) (3 * (x .h * d)) E s (outerEdge x s)
-      on-second j = record { a = a; b = b; at = at; is = go (decLe (3 * a) (J * b)) }
+      pub on-second : jointNum x * b ≤ 3 * a → OnPiece (x .c * x .q * E + jointNum x * m) (3 * (x .h * d)) E s (outerEdge x s)
+      on-second j = record { a = a; b = b; at = at; is = go (decLe (3 * a) (jointNum x * b)) }
         where
-          go : Dec (3 * a ≤ J * b) → Is (outerEdge x s) ((x .c * x .q * E + J * m) * b + 3 * (x .h * d) * a) 0 (E * b)
+          go : Dec (3 * a ≤ jointNum x * b) → Is (outerEdge x s) ((x .c * x .q * E + jointNum x * m) * b + 3 * (x .h * d) * a) 0 (E * b)
           go (yes k) =
-              is-as (first-piece h k) (mul-pos (omega arith) (at .over)) (omega (arith, meet (x .c * x .q) (x .h * d) m J E a b (omega arith) (omega arith)))
+              is-as (first-piece h k) (mul-pos (omega arith) (at .over)) (omega (arith, meet (x .c * x .q) (x .h * d) m (jointNum x) E a b (omega arith) (omega arith)))
           go (no k) =
-              let run : 3 * x .L - J ≡ E = omega arith in
+              let run : 3 * x .L - jointNum x ≡ E = omega arith in
               let turn : x .v - x .p ≡ d = omega arith in
               let f = rw (run, turn) at (outer-edge x s (second-is x at two (omega arith) (omega arith) (omega arith))) in
-              is-net f (omega (arith, second (x .c * x .q) (x .h) (x .p) d m J E b (3 * a - J * b) (3 * a) (omega arith) (omega arith) (omega arith)))
+              is-net f (omega (arith, second (x .c * x .q) (x .h) (x .p) d m (jointNum x) E b (3 * a - jointNum x * b) (3 * a) (omega arith) (omega arith) (omega arith)))

@@ -12,7 +12,7 @@ use Rattle.exact.proofs.Integers.{dn, is-pos}
 use Rattle.exact.proofs.Order.{above, below, le-out, ≼-refl, ≼-trans, ≺-≼-trans, ≼-≺-trans, ≼-antisym, ≺→≼, ≈→≼, ≈-sym, clash, ask}
 use Rattle.exact.proofs.Is.{Is, is-self, is-one, is-net, is-le, le-is}
 use Rattle.exact.proofs.Climb.{Climb, climb-trans, gently, OnPiece, piece-climbs, piece-higher, piece-level}
-use Rattle.runoff.specs.Lines.{Section, On, joint, outerEdge, firstReached}
+use Rattle.runoff.specs.Lines.{Section, On, joint, jointNum, outerEdge, firstReached}
 use Rattle.runoff.specs.Climbing.{Level, Climbs}
 use Rattle.runoff.proofs.Slopes.{is-even, not-even, even?, joint-is}
 use Rattle.runoff.proofs.EdgePieces.{on-even, on-first, on-second}
@@ -68,7 +68,7 @@ module _ {added : ℕ} {x : Section} (ok : ClimbPremises added x) where
       weak = piece-climbs (ok .long) (on a) (on b) (ok .gentle)
 
   -- two-stage: a piece up to the joint, and one from there
-  module _ (two : x .h * (x .p + x .v) < 3 * x .L) (d m : ℕ) (dv : x .v ≡ x .p + d) (el : 3 * x .L ≡ 2 * x .h * x .p + x .h * d + m) (mp : 0 < m) where
+  module _ (two : x .h * (x .p + x .v) < 3 * x .L) (d m : ℕ) (dv : x .v ≡ x .p + d) (el : 3 * x .L ≡ jointNum x + x .h * d + m) (mp : 0 < m) where
     at-joint : On x (joint x)
     at-joint = record { fraction = omega arith; from = is-le (is-one 0) (joint-is x) (omega arith); to = is-le (joint-is x) (is-one (x .L)) (omega arith) }
 
@@ -78,7 +78,7 @@ module _ {added : ℕ} {x : Section} (ok : ClimbPremises added x) where
     before : {u : Exact} → On x u → u ≼ joint x → OnPiece (x .c * x .q) 3 1 u (outerEdge x u)
     before k h = on-first x (station-is k) two (ok .wide) (omega (arith, le-is (station-is k) (joint-is x) h))
 
-    past : {u : Exact} → On x u → joint x ≼ u → OnPiece (x .c * x .q * (x .h * d + m) + 2 * x .h * x .p * m) (3 * (x .h * d)) (x .h * d + m) u (outerEdge x u)
+    past : {u : Exact} → On x u → joint x ≼ u → OnPiece (x .c * x .q * (x .h * d + m) + jointNum x * m) (3 * (x .h * d)) (x .h * d + m) u (outerEdge x u)
     past k h = on-second x (station-is k) two (ok .wide) d m dv el mp (omega (arith, le-is (joint-is x) (station-is k) h))
 
     first-climbs : {u w : Exact} → On x u → On x w → w ≼ joint x → u ≼ w → Climb added u (outerEdge x u) w (outerEdge x w)

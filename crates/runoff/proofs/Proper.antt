@@ -7,7 +7,7 @@ use native.Mathlib.Omega.{arith}
 use Rattle.exact.specs.Exact.{Exact}
 use Rattle.exact.proofs.Order.{above}
 use Rattle.exact.proofs.Is.{Is, is-one, le-is}
-use Rattle.runoff.specs.Lines.{Section, On, outerSlope, Fractions}
+use Rattle.runoff.specs.Lines.{Section, On, jointNum, outerSlope, Fractions}
 use Rattle.runoff.proofs.Slopes.{even?, even-is, first-is, second-is}
 use Rattle.runoff.proofs.Heights.{outer-edge, outer-brow, inner-slope, shoulder-slope, widening-is, inner-shoulder, inner-edge, inner-brow}
 use Rattle.runoff.proofs.ExactClimb.{ClimbPremises, station-is}
@@ -23,12 +23,12 @@ slope : {x : Section} {s : Exact} {m n e : ℕ} → Is (outerSlope x s) m n e �
 slope {m = m} {n = n} {e = e} f = record { m = m; n = n; e = e; is = f }
 
 slope-at : {added : ℕ} {x : Section} {s : Exact} → ClimbPremises added x → On x s → Slope x s
-slope-at {x = x} {s} ok on = go (even? x) (decLe (3 * above s) (2 * x .h * x .p * s .den))
+slope-at {x = x} {s} ok on = go (even? x) (decLe (3 * above s) (jointNum x * s .den))
   where
     at : Is s (above s) 0 (s .den)
     at = station-is on
 
-    go : Dec (3 * x .L ≤ x .h * (x .p + x .v)) → Dec (3 * above s ≤ 2 * x .h * x .p * s .den) → Slope x s
+    go : Dec (3 * x .L ≤ x .h * (x .p + x .v)) → Dec (3 * above s ≤ jointNum x * s .den) → Slope x s
     go (yes t) _ = slope (even-is x at (ok .long) t)
     go (no t) (yes j) = slope (first-is x at (omega arith) (ok .wide) j)
     go (no t) (no j) =

@@ -39,19 +39,19 @@ module _ (x : Section) {s : Exact} {a b : ℕ} (at : Is s a 0 b) where
       (omega arith))
 
   module _ (two : x .h * (x .p + x .v) < 3 * x .L) where
-    pub first-is : 0 < x .h → 3 * a ≤ 2 * x .h * x .p * b → Is (outerSlope x s) (3 * a) (x .p * (x .h * b)) (x .h * b)
+    pub first-is : 0 < x .h → 3 * a ≤ jointNum x * b → Is (outerSlope x s) (3 * a) (x .p * (x .h * b)) (x .h * b)
     unfolding outerSlope
     first-is h j =
         rw (not-even x two, is-yes at (joint-is x) (omega arith))
         (is-net (is-add (is-minus (x .p) (x .h * b) (mul-pos h (at .over))) (is-over (x .h) h (is-times 3 at))) (omega arith))
 
     pub second-is :
-        x .p ≤ x .v → 2 * x .h * x .p < 3 * x .L → 2 * x .h * x .p * b < 3 * a →
+        x .p ≤ x .v → jointNum x < 3 * x .L → jointNum x * b < 3 * a →
         Is (outerSlope x s)
-        (x .p * ((3 * x .L - 2 * x .h * x .p) * b) + (x .v - x .p) * (3 * a - 2 * x .h * x .p * b)) 0 ((3 * x .L - 2 * x .h * x .p) * b)
+        (x .p * ((3 * x .L - jointNum x) * b) + (x .v - x .p) * (3 * a - jointNum x * b)) 0 ((3 * x .L - jointNum x) * b)
     unfolding outerSlope
     second-is turned before j =
-        let J = 2 * x .h * x .p in
+        let J : ℕ = jointNum x in
         let E = 3 * x .L - J in
         let k : 0 < E * b = mul-pos (omega arith) (at .over) in
         let turn = is-less turned (is-one (x .v)) (is-one (x .p)) in

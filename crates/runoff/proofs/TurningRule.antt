@@ -10,7 +10,7 @@ use Rattle.exact.specs.Exact.{Exact, whole, minus, _⊖_, _⊗_, _≼_, _≈_}
 use Rattle.exact.proofs.Ring.{ring}
 use Rattle.exact.proofs.Is.{Is, is-one, is-minus, is-net, is-times, is-diff, is-eq, le-is}
 use Rattle.exact.proofs.Climb.{OnPiece}
-use Rattle.runoff.specs.Lines.{Section, On, isEven, joint, outerSlope, outerEdge, innerBrow}
+use Rattle.runoff.specs.Lines.{Section, On, isEven, joint, jointNum, outerSlope, outerEdge, innerBrow}
 use Rattle.runoff.specs.Turning.{Turning, TurningTheorem}
 use Rattle.runoff.proofs.Slopes.{even?, joint-is, even-is, first-is, second-is}
 use Rattle.runoff.proofs.Heights.{inner-slope, shoulder-slope, inner-brow}
@@ -35,8 +35,8 @@ module _ {added : ℕ} {x : Section} (ok : ClimbPremises added x) where
   ends : Dec (3 * x .L ≤ x .h * (x .p + x .v)) → outerSlope x (whole (x .L)) ≈ whole (x .v)
   ends (yes e) = is-eq (even-is x (is-one (x .L)) (ok .long) e) (is-one (x .v)) (omega arith)
   ends (no e) =
-      let run : 2 * x .h * x .p < 3 * x .L = omega (arith, mul-le-mul-left (x .h) (ok .turned)) in
-      is-eq (second-is x (is-one (x .L)) (omega arith) (ok .turned) run (omega arith)) (is-one (x .v)) (whole-turn (x .p) (x .v) (3 * x .L - 2 * x .h * x .p) _ (ok .turned) (omega arith))
+      let run : jointNum x < 3 * x .L = omega (arith, mul-le-mul-left (x .h) (ok .turned)) in
+      is-eq (second-is x (is-one (x .L)) (omega arith) (ok .turned) run (omega arith)) (is-one (x .v)) (whole-turn (x .p) (x .v) (3 * x .L - jointNum x) _ (ok .turned) (omega arith))
     where
       -- p, and v − p more over the whole of what is left
       whole-turn : (p v E F : ℕ) → p ≤ v → F ≡ E → (p * (E * 1) + (v - p) * F) * 1 + 0 * (E * 1) ≡ v * (E * 1) + 0 * 1

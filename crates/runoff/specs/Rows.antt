@@ -33,7 +33,8 @@ tie = lower
 abbrev pub inUnits : ℕ → Exact → ℤ
 inUnits unit x = rounded tie (1000 * unit) x
 
--- a row has seven signed numbers: station in mm; widening; inner brow; inner edge; axis; outer edge; outer brow
+-- a row has seven signed 32-bit numbers: station in mm; widening; inner brow; inner edge; axis; outer edge; outer brow
+-- (whole numbers here; that they fit 32 bits is for the code that writes them)
 pub record Row : Type 0 where
   pub station : ℤ
   pub widening : ℤ

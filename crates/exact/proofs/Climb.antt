@@ -7,7 +7,8 @@ use native.Mathlib.Omega.{arith}
 use Rattle.exact.specs.Exact.{Exact, whole, _⊖_, _⊗_, _≼_, _≺_}
 use Rattle.exact.proofs.Ring.{ring}
 use Rattle.exact.proofs.Order.{≼-trans}
-use Rattle.exact.proofs.Is.{Is, is-self, is-as, is-net, is-sub, is-times, is-diff, is-le, le-is, is-lt, lt-is}
+use Rattle.exact.specs.Parts.{Is}
+use Rattle.exact.proofs.Is.{is-self, is-as, is-net, is-sub, is-times, is-diff, is-le, le-is, is-lt, lt-is}
 
 -- X − A s, which may not grow along the way: so two stretches are glued by transitivity
 abbrev pub lag : ℕ → Exact → Exact → Exact

@@ -6,7 +6,7 @@ use native.Mathlib.Nat.{div-mul-le-self, lt-div-mul-add}
 use native.Mathlib.Omega.{arith}
 use lib.IntN.{ℤ, pos, negsuc}
 use Rattle.exact.specs.Rounding.{floorDiv}
-use Rattle.exact.proofs.Integers.{up, dn}
+use Rattle.exact.specs.Parts.{up, dn}
 
 -- a worked value: −½ goes to −1
 minus-half : floorDiv (negsuc 0) 2 ≡ negsuc 0

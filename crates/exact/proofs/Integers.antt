@@ -9,14 +9,7 @@ use native.Mathlib.Omega.{arith}
 use lib.Dec.{T, ltb, leb→le, le→leb, ltb→lt, lt→ltb, nltb→le, nleb→lt}
 use lib.IntN.{ℤ, pos, negsuc, negℤ, natAbs, subℕ, _+ℤ_, _-ℤ_, _*ℤ_}
 use lib.Signed.{leZ, ltZ, _≤ℤ_, _<ℤ_, ltZ-no}
-
-abbrev pub up : ℤ → ℕ
-up (pos n) = n
-up (negsuc n) = 0
-
-abbrev pub dn : ℤ → ℕ
-dn (pos n) = 0
-dn (negsuc n) = suc n
+use Rattle.exact.specs.Parts.{up, dn}
 
 -- ---- the operations
 by-test : (c : Bool) (x y : ℤ) (P : ℤ → Type 0) → (T c → P x) → (T (not c) → P y) → P (cond c x y)

@@ -7,17 +7,12 @@ use native.Mathlib.Nat.{mul-pos, mul-le-mul-right, mul-lt-mul-of-pos-right, le-o
 use native.Mathlib.Decide.{decLe}
 use native.Mathlib.Omega.{arith}
 use lib.IntN.{ℤ, pos, negsuc, natAbs, _*ℤ_}
-use Rattle.exact.specs.Exact.{Exact, frac, whole, minus, _⊕_, _⊖_, _⊗_, _⊘_, _≼_, _≺_, _≈_, atMost, greater}
+use Rattle.exact.specs.Exact.{Exact, frac, whole, minus, ratio, _⊕_, _⊖_, _⊗_, _⊘_, _≼_, _≺_, _≈_, atMost, greater}
+use Rattle.exact.specs.Parts.{up, dn, Is}
 use Rattle.exact.proofs.Ring.{ring}
-use Rattle.exact.proofs.Integers.{up, dn, mul-parts, neg-up, neg-dn, abs-parts}
+use Rattle.exact.proofs.Integers.{sub-parts, mul-parts, neg-up, neg-dn, abs-parts}
 use Rattle.exact.proofs.Order.{above, below, left, right, le-out, le-in, lt-out, lt-in, eq-in, at-most-yes, at-most-no, clash}
 use Rattle.exact.proofs.Sums.{sum-parts, difference-parts}
-
--- x is (a − b)/d, and both denominators are above 0
-pub record Is (x : Exact) (a b d : ℕ) : Type 0 where
-  pub eq : above x * d + b * x .den ≡ a * x .den + below x * d
-  pub proper : 0 < x .den
-  pub over : 0 < d
 
 -- ---- numbers
 pub is-self : (x : Exact) → 0 < x .den → Is x (above x) (below x) (x .den)
@@ -218,3 +213,10 @@ is-floor {x} {a} {b} {d} n f = go (decLe (n * d + b) a)
     go : Dec (n * d + b ≤ a) → Is (greater (whole n) x) (max (n * d) (a - b)) 0 d
     go (yes h) = rw (is-yes (is-one n) f (omega arith)) (is-net f (omega arith))
     go (no h) = rw (is-no (is-one n) f (omega arith)) (is-as (is-one n) (f .over) (omega arith))
+
+-- ---- (a − b)/d itself, and two fractions with the same parts
+pub is-ratio : (a b d : ℕ) → 0 < d → Is (ratio a b d) a b d
+is-ratio a b d h = record { eq = omega (arith, ap (λ (k : ℕ). k * d) (sub-parts (pos a) (pos b))); proper = h; over = h }
+
+pub is-same : {x y : Exact} {a b d : ℕ} → Is x a b d → Is y a b d → x ≈ y
+is-same f g = is-eq f g (omega arith)

@@ -3,6 +3,7 @@ pub mod Integers
 pub mod Order
 pub mod Sums
 pub mod Near
+pub mod Machine
 pub mod Floor
 pub mod Rounded
 pub mod Is

@@ -9,7 +9,8 @@ use native.Mathlib.Decide.{decLe}
 use native.Mathlib.Omega.{arith}
 use lib.IntN.{pos, _*ℤ_}
 use Rattle.exact.specs.Exact.{Exact, _≼_, _≺_, _≈_, atMost}
-use Rattle.exact.proofs.Integers.{up, dn, ints, mul-parts, le-yes, le-no}
+use Rattle.exact.specs.Parts.{up, dn}
+use Rattle.exact.proofs.Integers.{ints, mul-parts, le-yes, le-no}
 
 -- x is (above x − below x) / den
 abbrev pub above : Exact → ℕ

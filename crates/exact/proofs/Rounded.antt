@@ -2,13 +2,14 @@
 -- Assumes nothing.
 use mathlib.Core.Path.{_≡_, refl, ap}
 use Prim.Native.Nat.{ℕ, _+_, _*_, _≤_, _<_}
-use native.Mathlib.Nat.{mul-le-mul-right, mul-pos, le-of-mul-le-mul-right, lt-of-mul-lt-mul-right}
+use native.Mathlib.Nat.{mul-le-mul-left, mul-le-mul-right, mul-pos, le-of-mul-le-mul-right, lt-of-mul-lt-mul-right}
 use native.Mathlib.Omega.{arith}
 use lib.IntN.{ℤ, pos, negsuc, natAbs, _+ℤ_, _-ℤ_, _*ℤ_}
 use lib.Signed.{_≤ℤ_}
 use Rattle.exact.specs.Exact.{Exact, _⊕_, _⊖_, _≼_, _≈_}
 use Rattle.exact.specs.Rounding.{Tie, lower, higher, units, Prefers, Nearest, taken, rounded, RoundingTheorem}
-use Rattle.exact.proofs.Integers.{up, dn, ints, add-parts, sub-parts, mul-parts, parts-le, parts-eq, size-parts}
+use Rattle.exact.specs.Parts.{up, dn}
+use Rattle.exact.proofs.Integers.{ints, add-parts, sub-parts, mul-parts, parts-le, parts-eq, abs-parts, size-parts}
 use Rattle.exact.proofs.Order.{above, below, le-out, le-in, eq-out, eq-in}
 use Rattle.exact.proofs.Sums.{sum-parts, difference-parts}
 use Rattle.exact.proofs.Floor.{floor-is}
@@ -45,6 +46,10 @@ rounded-half tie {u} unit x proper =
     let f = floor-is (pos 2 *ℤ x .num +ℤ (pos d -ℤ pos (taken tie))) (2 * d) (omega (arith, mul-pos proper unit)) in
     omega arith
 
+taken-most : (tie : Tie) → taken tie ≤ 1
+taken-most lower = omega arith
+taken-most higher = omega arith
+
 -- ---- the order
 -- one of the two bounds is left out: this is all that keeping the order takes of the rule
 strict : (tie : Tie) {a b : ℕ} → 0 < a → 0 < b → taken tie * a < taken tie * b + a
@@ -72,6 +77,23 @@ half-shift {u = u} {x = x} {n = n} k f =
     let e₃ = ap (λ (m : ℕ). m * (x .den * u)) (add-parts n k) in
     omega arith
 
+-- ---- the size: a fraction of at most k either way is rounded to at most k units, whatever the unit
+half-size : {tie : Tie} {u k : ℕ} {x : Exact} (n : ℤ) → Half tie u x n → above x ≤ k * (x .den * u) → below x ≤ k * (x .den * u) → natAbs n ≤ k
+half-size {u = u} {k = k} {x = x} (pos a) f h g =
+    let some = mul-pos (f .proper) (f .unit) in
+    let less : a < k + 1 = lt-of-mul-lt-mul-right (x .den * u) (omega (arith, f .low)) in
+    omega arith
+half-size {tie} {u} {k} {x} (negsuc a) f h g =
+    let some = mul-pos (f .proper) (f .unit) in
+    let less : a + 1 < k + 1 = lt-of-mul-lt-mul-right (x .den * u) (omega (arith, taken-most tie, f .high)) in
+    omega arith
+
+pub rounded-size :
+    (tie : Tie) {u : ℕ} → 0 < u → (x : Exact) → 0 < x .den → (k : ℕ) → natAbs (x .num) ≤ k * x .den → natAbs (rounded tie u x) ≤ k
+rounded-size tie {u} unit x proper k h =
+    let wide : k * x .den * 1 ≤ k * x .den * u = mul-le-mul-left (k * x .den) unit in
+    half-size (rounded tie u x) (rounded-half tie unit x proper) (omega (arith, abs-parts (x .num))) (omega (arith, abs-parts (x .num)))
+
 -- ---- the distance
 -- x is n units of u and rest / den
 abbrev rest : ℕ → Exact → ℤ → ℤ
@@ -79,10 +101,6 @@ rest u x n = (x ⊖ units u n) .num
 
 rest-parts : (u : ℕ) (x : Exact) (n : ℤ) → up (rest u x n) + below x + up n * (x .den * u) ≡ dn (rest u x n) + above x + dn n * (x .den * u)
 rest-parts u x n = omega (arith, difference-parts x (units u n), ap (λ (m : ℕ). m * x .den) (mul-parts n (pos u)))
-
-taken-most : (tie : Tie) → taken tie ≤ 1
-taken-most lower = omega arith
-taken-most higher = omega arith
 
 le-of-not-lt : {a b : ℕ} → ¬ (b < a) → a ≤ b
 le-of-not-lt h = omega arith

@@ -4,7 +4,8 @@ use Prim.Native.Nat.{ℕ, _<_}
 use native.Mathlib.Omega.{arith}
 use Rattle.exact.specs.Exact.{Exact, _⊗_, _⊘_, LineTheorem}
 use Rattle.exact.proofs.Ring.{ring}
-use Rattle.exact.proofs.Is.{Is, is-self, is-as, is-net, is-natural, is-diff, is-sum, is-product, is-div, is-eq, lt-is}
+use Rattle.exact.specs.Parts.{Is}
+use Rattle.exact.proofs.Is.{is-self, is-as, is-net, is-natural, is-diff, is-sum, is-product, is-div, is-eq, lt-is}
 
 -- a number times m/e, divided by m/e
 back : {x y : Exact} {a b d m e : ℕ} → Is x a b d → Is y m 0 e → 0 < m → Is (x ⊗ y ⊘ y) a b d

@@ -21,6 +21,10 @@ whole n = frac n 1
 abbrev pub minus : ℕ → Exact
 minus n = record { num = negℤ (pos n); den = 1 }
 
+-- (a − b)/d
+abbrev pub ratio : ℕ → ℕ → ℕ → Exact
+ratio a b d = record { num = pos a -ℤ pos b; den = d }
+
 infixl 65 _⊕_ _⊖_
 infixl 70 _⊗_ _⊘_
 infix 50 _≼_ _≺_ _≈_

@@ -7,7 +7,8 @@ use native.Mathlib.Decide.{decLe}
 use native.Mathlib.Omega.{arith}
 use Rattle.exact.specs.Exact.{Exact}
 use Rattle.exact.proofs.Ring.{ring}
-use Rattle.exact.proofs.Is.{Is, is-as, is-net}
+use Rattle.exact.specs.Parts.{Is}
+use Rattle.exact.proofs.Is.{is-as, is-net}
 use Rattle.exact.proofs.Climb.{OnPiece}
 use Rattle.runoff.specs.Lines.{Section, jointNum, outerEdge}
 use Rattle.runoff.proofs.Slopes.{even-is, first-is, second-is}

@@ -8,9 +8,10 @@ use native.Mathlib.Decide.{ℕ-discrete}
 use native.Mathlib.Omega.{arith}
 use Rattle.exact.specs.Exact.{Exact, whole, _≼_, _≺_, _≈_}
 use Rattle.exact.proofs.Ring.{times-zero}
-use Rattle.exact.proofs.Integers.{dn, is-pos}
+use Rattle.exact.proofs.Integers.{is-pos}
 use Rattle.exact.proofs.Order.{above, below, le-out, ≼-refl, ≼-trans, ≺-≼-trans, ≼-≺-trans, ≼-antisym, ≺→≼, ≈→≼, ≈-sym, clash, ask}
-use Rattle.exact.proofs.Is.{Is, is-self, is-one, is-net, is-le, le-is}
+use Rattle.exact.specs.Parts.{dn, Is}
+use Rattle.exact.proofs.Is.{is-self, is-one, is-net, is-le, le-is}
 use Rattle.exact.proofs.Climb.{Climb, climb-trans, gently, OnPiece, piece-climbs, piece-higher, piece-level}
 use Rattle.runoff.specs.Lines.{Section, On, joint, jointNum, outerEdge, firstReached}
 use Rattle.runoff.specs.Climbing.{Level, Climbs}

@@ -4,7 +4,8 @@ use Prim.Native.Nat.{ℕ, _+_, _*_, _-_, _≤_, _<_, max}
 use native.Mathlib.Nat.{mul-pos}
 use native.Mathlib.Omega.{arith}
 use Rattle.exact.specs.Exact.{Exact, whole, _⊕_}
-use Rattle.exact.proofs.Is.{Is, is-whole, is-net, is-add, is-sub, is-mul, is-times, is-over, is-less, is-floor}
+use Rattle.exact.specs.Parts.{Is}
+use Rattle.exact.proofs.Is.{is-whole, is-net, is-add, is-sub, is-mul, is-times, is-over, is-less, is-floor}
 use Rattle.runoff.specs.Lines.{Section, axisHeight, outerSlope, innerSlope, shoulderSlope, widening, innerShoulder, outerEdge, outerBrow, innerEdge, innerBrow}
 
 -- the outer slope is (m − n)/e

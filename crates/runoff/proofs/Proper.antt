@@ -6,7 +6,8 @@ use native.Mathlib.Decide.{decLe}
 use native.Mathlib.Omega.{arith}
 use Rattle.exact.specs.Exact.{Exact}
 use Rattle.exact.proofs.Order.{above}
-use Rattle.exact.proofs.Is.{Is, is-one, le-is}
+use Rattle.exact.specs.Parts.{Is}
+use Rattle.exact.proofs.Is.{is-one, le-is}
 use Rattle.runoff.specs.Lines.{Section, On, jointNum, outerSlope, Fractions}
 use Rattle.runoff.proofs.Slopes.{even?, even-is, first-is, second-is}
 use Rattle.runoff.proofs.Heights.{outer-edge, outer-brow, inner-slope, shoulder-slope, widening-is, inner-shoulder, inner-edge, inner-brow}

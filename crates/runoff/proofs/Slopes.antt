@@ -8,7 +8,8 @@ use native.Mathlib.Decide.{decLe}
 use native.Mathlib.Omega.{arith}
 use borrow.Author.Tests.{le-leb, lt-leb}
 use Rattle.exact.specs.Exact.{Exact, whole, minus, _⊖_}
-use Rattle.exact.proofs.Is.{Is, is-frac, is-whole, is-minus, is-one, is-as, is-net, is-add, is-sub, is-mul, is-div, is-times, is-over, is-less, is-from-zero, is-yes, is-no}
+use Rattle.exact.specs.Parts.{Is}
+use Rattle.exact.proofs.Is.{is-frac, is-whole, is-minus, is-one, is-as, is-net, is-add, is-sub, is-mul, is-div, is-times, is-over, is-less, is-from-zero, is-yes, is-no}
 use Rattle.runoff.specs.Lines.{Section, isEven, joint, jointNum, jointDen, outerSlope}
 
 -- even or two-stage

@@ -8,7 +8,8 @@ use native.Mathlib.Omega.{arith}
 use borrow.Author.Tests.{leb-false}
 use Rattle.exact.specs.Exact.{Exact, whole, minus, _⊖_, _⊗_, _≼_, _≈_}
 use Rattle.exact.proofs.Ring.{ring}
-use Rattle.exact.proofs.Is.{Is, is-one, is-minus, is-net, is-times, is-diff, is-eq, le-is}
+use Rattle.exact.specs.Parts.{Is}
+use Rattle.exact.proofs.Is.{is-one, is-minus, is-net, is-times, is-diff, is-eq, le-is}
 use Rattle.exact.proofs.Climb.{OnPiece}
 use Rattle.runoff.specs.Lines.{Section, On, isEven, joint, jointNum, outerSlope, outerEdge, innerBrow}
 use Rattle.runoff.specs.Turning.{Turning, TurningTheorem}

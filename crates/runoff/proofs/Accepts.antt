@@ -3,8 +3,10 @@
 use mathlib.Core.Path.{_≡_, refl}
 use mathlib.Core.Bool.{Bool, true, false, cond, not, and-eq-true-iff}
 use mathlib.Core.List.{List, [], _∷_}
+use mathlib.Core.Logic.{⊎-elim}
 use Prim.Native.Nat.{ℕ, _≤_, _<_}
 use native.Mathlib.Nat.{le-trans, mul-le-mul-left}
+use native.Mathlib.Decide.{decLt}
 use native.Mathlib.Omega.{arith}
 use lib.Dec.{ltb, lit<}
 use lib.ListN.{length, getD}
@@ -12,10 +14,12 @@ use borrow.Author.Tests.{ltb-true, not-true}
 use Rattle.runoff.specs.declared.Card.{Card}
 use Rattle.runoff.specs.declared.tables.Profile.{Profile}
 use Rattle.runoff.specs.Profile.{profileAt}
+use Rattle.runoff.specs.Rows.{multiplesBelow, rowCount}
 use Rattle.runoff.specs.Refusal.{Test, test, first, ownTests, refusal}
 use Rattle.runoff.specs.Accepted.{AcceptedBy, AcceptedTheorem, Sizes, addedOf}
 use Rattle.runoff.proofs.Clothoids.{at-least-30}
 use Rattle.runoff.proofs.Entries.{least-radius, sizes}
+use Rattle.runoff.proofs.RowPlaces.{counts-multiples}
 use Rattle.runoff.proofs.Every.{every, here, later, at-place}
 use Rattle.runoff.proofs.Steps.{at-start, passed}
 use Rattle.runoff.proofs.Unmet.{not-above, not-outside, not-neither, not-too-wide}
@@ -97,6 +101,19 @@ module _ (card : Card) where
       let radius : 30 ≤ card .radius = le-trans (least-radius (card .profile) (a .profile-least) (a .profile-most)) (a .radius-least) in
       le-trans (mul-le-mul-left 1000 (at-least-30 (card .radius) radius)) (a .clothoid-least)
 
+  -- the unit is 1 or 10
+  pub unit-in : refusal card ≡ 0 → (1 ≤ card .unit) × (card .unit ≤ 10)
+  unit-in e = ⊎-elim (λ e. omega arith) (λ e. omega arith) (accepted e .unit)
+
+  few : refusal card ≡ 0 → rowCount card ≤ 301
+  few e = go (decLt 300 (multiplesBelow (card .clothoid) (card .step)))
+    where
+      go : Dec (300 < multiplesBelow (card .clothoid) (card .step)) → rowCount card ≤ 301
+      go (yes h) =
+          let a = accepted e in
+          absurd (omega (arith, counts-multiples (card .clothoid) (card .step) 300 (omega (arith, a .step-least)) .0 h, a .step-least, a .clothoid-most))
+      go (no h) = omega arith
+
 pub accepted-rule : AcceptedTheorem
 accepted-rule card =
-    record { exactly = (accepted card, not-refused card); sizes = sizes-of card; long = long card }
+    record { exactly = (accepted card, not-refused card); sizes = sizes-of card; long = long card; few = few card }

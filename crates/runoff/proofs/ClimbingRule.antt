@@ -1,7 +1,6 @@
 -- Demand 3, the climbing rule, and the accuracy rule, of every card that none of its own reasons refuses.
 -- Assumes nothing.
 use mathlib.Core.Path.{_≡_, refl}
-use mathlib.Core.Logic.{_⊎_, inl, inr}
 use Prim.Native.Nat.{ℕ, _*_, _≤_, _<_}
 use native.Mathlib.Omega.{arith}
 use Rattle.exact.specs.Exact.{Exact}
@@ -14,16 +13,11 @@ use Rattle.runoff.specs.Refusal.{refusal}
 use Rattle.runoff.specs.Accepted.{addedOf}
 use Rattle.runoff.specs.Climbing.{TabledAt, ClimbingRule, ClimbingTheorem}
 use Rattle.runoff.specs.Accuracy.{Accurate, AccurateRow, AccuracyTheorem}
-use Rattle.runoff.proofs.Accepts.{accepted-rule}
+use Rattle.runoff.proofs.Accepts.{unit-in, accepted-rule}
 use Rattle.runoff.proofs.RowPlaces.{station-most, station-rises}
 use Rattle.runoff.proofs.ExactClimb.{ClimbPremises, climbs}
 use Rattle.runoff.proofs.TabledClimb.{on-whole, tabled}
 use Rattle.runoff.proofs.Proper.{proper}
-
--- a unit of 1 or 10 is above 0
-some : {unit : ℕ} → (unit ≡ 1) ⊎ (unit ≡ 10) → 0 < unit
-some (inl e) = omega arith
-some (inr e) = omega arith
 
 module _ (card : Card) (passes : refusal card ≡ 0) where
   pub premises : ClimbPremises (addedOf card) (sectionOf card)
@@ -40,7 +34,7 @@ module _ (card : Card) (passes : refusal card ≡ 0) where
       }
 
   unit-some : 0 < card .unit
-  unit-some = some (accepted-rule card .exactly .0 passes .unit)
+  unit-some = unit-in card passes .0
 
   at-stations : (d e : ℕ) → d ≤ e → e ≤ card .clothoid → TabledAt card d e
   unfolding row

@@ -14,5 +14,13 @@ pub mod ExactClimb
 pub mod Proper
 pub mod TabledClimb
 pub mod ClimbingRule
+pub mod Joined
+pub mod RowBlocks
+pub mod Limits
+pub mod ClimbingTable
+pub mod Replies
+pub mod StationSlopes
+pub mod RowLines
+pub mod Fields
 pub mod TurningRule
 pub mod StarredReadings

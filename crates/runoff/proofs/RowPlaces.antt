@@ -8,7 +8,7 @@ use native.Mathlib.Omega.{arith}
 use lib.Dec.{ltb}
 use borrow.Author.Tests.{ltb-true, ltb-false}
 use Rattle.runoff.specs.declared.Card.{Card}
-use Rattle.runoff.specs.Rows.{multiplesBelow, CountsMultiples, stationOf}
+use Rattle.runoff.specs.Rows.{multiplesBelow, CountsMultiples, rowCount, stationOf}
 
 pub counts-multiples : CountsMultiples
 counts-multiples L step i some = (below, counted) where
@@ -34,3 +34,10 @@ station-most card i = omega (arith, station-is-least card i)
 
 pub station-rises : (card : Card) (i j : ℕ) → i ≤ j → stationOf card i ≤ stationOf card j
 station-rises card i j h = omega (arith, station-is-least card i, station-is-least card j, mul-le-mul-right (card .step) h)
+
+-- and each later row of the table is farther
+pub station-farther : (card : Card) (i j : ℕ) → 0 < card .step → i < j → j < rowCount card → stationOf card i < stationOf card j
+station-farther card i j some h g =
+    let below : i * card .step < card .clothoid = counts-multiples (card .clothoid) (card .step) i some .0 (omega arith) in
+    let further : suc i * card .step ≤ j * card .step = mul-le-mul-right (card .step) h in
+    omega (arith, station-is-least card i, station-is-least card j, suc-mul i (card .step))

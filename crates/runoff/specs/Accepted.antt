@@ -7,6 +7,7 @@ use Rattle.runoff.specs.declared.Card.{Card}
 use Rattle.runoff.specs.declared.tables.Profile.{Profile}
 use Rattle.runoff.specs.Profile.{profileAt, addedSlope}
 use Rattle.runoff.specs.Clothoid.{leastLength}
+use Rattle.runoff.specs.Rows.{rowCount}
 use Rattle.runoff.specs.Refusal.{refusal}
 
 -- the added slope of the card's category and terrain
@@ -44,11 +45,13 @@ pub record Sizes (r : Profile) (added : ℕ) : Type 0 where
   pub added-least : 5 ≤ added
   pub added-most : added ≤ 20
 
--- a card is accepted exactly when all of these hold; then its profile has these sizes, and its clothoid is no shorter than 30 m
+-- a card is accepted exactly when all of these hold; then its profile has these sizes, its clothoid is no shorter than 30 m,
+-- and it has at most 301 rows, so that a table of 2107 numbers is long enough for every card
 pub record AcceptedRule (card : Card) : Type 0 where
   pub exactly : (refusal card ≡ 0) ↔ AcceptedBy (profileAt (card .profile)) card
   pub sizes : refusal card ≡ 0 → Sizes (profileAt (card .profile)) (addedOf card)
   pub long : refusal card ≡ 0 → 30000 ≤ card .clothoid
+  pub few : refusal card ≡ 0 → rowCount card ≤ 301
 
 -- THEOREM (proofs/Accepts.antt): so it is with every card
 abbrev pub AcceptedTheorem : Type 0

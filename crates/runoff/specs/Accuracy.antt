@@ -20,11 +20,11 @@ pub record Accurate (unit : ℕ) (x : Exact) (n : ℤ) : Type 0 where
 pub record AccurateRow (card : Card) (d : ℕ) : Type 0 where
   pub station : rowOf card d .station ≡ pos d
   pub widening : Accurate (card .unit) (whole 1000 ⊗ widening (sectionOf card) (whole d)) (rowOf card d .widening)
-  pub innerBrow : Accurate (card .unit) (innerBrow (sectionOf card) (whole d)) (rowOf card d .innerBrow)
-  pub innerEdge : Accurate (card .unit) (innerEdge (sectionOf card) (whole d)) (rowOf card d .innerEdge)
+  pub innerBrow : Accurate (card .unit) (innerBrow (sectionOf card) (whole d)) (rowOf card d .«inner_brow»)
+  pub innerEdge : Accurate (card .unit) (innerEdge (sectionOf card) (whole d)) (rowOf card d .«inner_edge»)
   pub axis : Accurate (card .unit) (axis (sectionOf card)) (rowOf card d .axis)
-  pub outerEdge : Accurate (card .unit) (outerEdge (sectionOf card) (whole d)) (rowOf card d .outerEdge)
-  pub outerBrow : Accurate (card .unit) (outerBrow (sectionOf card) (whole d)) (rowOf card d .outerBrow)
+  pub outerEdge : Accurate (card .unit) (outerEdge (sectionOf card) (whole d)) (rowOf card d .«outer_edge»)
+  pub outerBrow : Accurate (card .unit) (outerBrow (sectionOf card) (whole d)) (rowOf card d .«outer_brow»)
 
 -- THEOREM (proofs/ClimbingRule.antt): it holds at every whole station of every accepted card
 abbrev pub AccuracyTheorem : Type 0

@@ -1,9 +1,11 @@
 -- Demand 3, the climbing rule.
 -- Assumes nothing.
 use mathlib.Core.Path.{_≡_}
+use mathlib.Core.List.{List}
 use mathlib.Core.Logic.{_↔_, _⊎_}
-use Prim.Native.Nat.{ℕ, _*_, _≤_, _<_}
-use lib.IntN.{ℤ}
+use Prim.Native.Nat.{ℕ, _+_, _*_, _≤_, _<_}
+use lib.IntN.{ℤ, pos}
+use lib.ListN.{length, getD}
 use lib.Signed.{_≤ℤ_}
 use Rattle.exact.specs.Exact.{Exact, frac, whole, _⊕_, _⊖_, _⊗_, _≼_, _≺_, _≈_, distance}
 use Rattle.exact.specs.Rounding.{units}
@@ -42,7 +44,7 @@ pub record Tabled (added unit : ℕ) (x : Section) (d e : ℕ) (n k : ℤ) : Typ
 
 -- the outer edges of a card's rows at the stations d and e
 abbrev pub TabledAt : Card → ℕ → ℕ → Type 0
-TabledAt card d e = Tabled (addedOf card) (card .unit) (sectionOf card) d e (rowOf card d .outerEdge) (rowOf card e .outerEdge)
+TabledAt card d e = Tabled (addedOf card) (card .unit) (sectionOf card) d e (rowOf card d .«outer_edge») (rowOf card e .«outer_edge»)
 
 -- the climbing rule of a card
 pub record ClimbingRule (card : Card) : Type 0 where
@@ -58,3 +60,26 @@ pub record ClimbingRule (card : Card) : Type 0 where
 -- THEOREM (proofs/ClimbingRule.antt): it holds of every accepted runoff, one whose card none of its own reasons refuses
 abbrev pub ClimbingTheorem : Type 0
 ClimbingTheorem = (card : Card) → refusal card ≡ 0 → ClimbingRule card
+
+-- ---- the table that a call leaves
+-- row i of a table takes the numbers from 7 × i on: the station is the first of them, the outer edge the sixth
+abbrev pub stationIn : List ℤ → ℕ → ℤ
+stationIn table i = getD table (7 * i) (pos 0)
+
+abbrev pub outerEdgeIn : List ℤ → ℕ → ℤ
+outerEdgeIn table i = getD table (7 * i + 5) (pos 0)
+
+-- demand 3 of the numbers in a table whose first count rows are the card's
+pub record ClimbingTable (card : Card) (count : ℕ) (table : List ℤ) : Type 0 where
+  -- the counted rows stand in the table
+  pub held : 7 * count ≤ length table
+  -- each at the station that the rule for rows gives its place
+  pub stations : (i : ℕ) → i < count → stationIn table i ≡ pos (stationOf card i)
+  -- a later row is farther
+  pub farther : (i j : ℕ) → i < j → j < count → stationOf card i < stationOf card j
+  -- the exact heights, at any two stations from the start to the clothoid's end, fractions included
+  pub exact : (s t : Exact) → On (sectionOf card) s → On (sectionOf card) t → Climbs (addedOf card) (sectionOf card) s t
+  -- the tabled heights, for any two of the rows, i before j, neighbours or not
+  pub rows :
+      (i j : ℕ) → i < j → j < count →
+      Tabled (addedOf card) (card .unit) (sectionOf card) (stationOf card i) (stationOf card j) (outerEdgeIn table i) (outerEdgeIn table j)

@@ -6,6 +6,7 @@ pub mod Rows
 pub mod Refusal
 pub mod Table
 pub mod Runoff
+pub mod Reckoning
 pub mod Accepted
 pub mod Turning
 pub mod Climbing

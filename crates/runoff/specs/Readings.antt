@@ -51,7 +51,7 @@ pub record Gives (n : ℕ) (ns : List ℕ) (x : Card) : Type 0 where
 -- the outer edges of a card's rows at some stations
 abbrev pub outerEdges : Card → List ℕ → List ℤ
 outerEdges x [] = []
-outerEdges x (d ∷ ds) = rowOf x d .outerEdge ∷ outerEdges x ds
+outerEdges x (d ∷ ds) = rowOf x d .«outer_edge» ∷ outerEdges x ds
 
 -- THEOREM (proofs/StarredReadings.antt)
 pub record Readings : Type 0 where
@@ -74,8 +74,8 @@ pub record Readings : Type 0 where
       outerEdges (card 3 terrain 700 120000 40 400 step 10) (0 ∷ 40000 ∷ 60000 ∷ 100000 ∷ 120000 ∷ [])
       ≡ pos 10 ∷ pos 22 ∷ pos 23 ∷ pos 26 ∷ pos 28 ∷ []
   -- the same card at 120000: inner edge 2, inner brow −6
-  pub inner-edge : (terrain step : ℕ) → rowOf (card 3 terrain 700 120000 40 400 step 10) 120000 .innerEdge ≡ pos 2
-  pub inner-brow : (terrain step : ℕ) → rowOf (card 3 terrain 700 120000 40 400 step 10) 120000 .innerBrow ≡ negℤ (pos 6)
+  pub inner-edge : (terrain step : ℕ) → rowOf (card 3 terrain 700 120000 40 400 step 10) 120000 .«inner_edge» ≡ pos 2
+  pub inner-brow : (terrain step : ℕ) → rowOf (card 3 terrain 700 120000 40 400 step 10) 120000 .«inner_brow» ≡ negℤ (pos 6)
   -- profile 1, R 2000, L 100000, v 20: outer edge 150, 300, 300 mm at 0, 50000, 100000
   pub crown-slope :
       (terrain W step : ℕ) →

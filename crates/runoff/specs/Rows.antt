@@ -9,6 +9,7 @@ use lib.IntN.{ℤ, pos}
 use Rattle.exact.specs.Exact.{Exact, whole, _⊗_}
 use Rattle.exact.specs.Rounding.{Tie, lower, rounded}
 use Rattle.runoff.specs.declared.Card.{Card}
+use Rattle.runoff.specs.declared.rows.Row.{Row}
 use Rattle.runoff.specs.Lines.{Section, sectionOf, axis, widening, innerBrow, innerEdge, outerEdge, outerBrow}
 
 -- how many of 0, step, 2 × step and so on lie below L
@@ -34,18 +35,8 @@ abbrev pub inUnits : ℕ → Exact → ℤ
 inUnits unit x = rounded tie (1000 * unit) x
 
 -- a row has seven signed 32-bit numbers: station in mm; widening; inner brow; inner edge; axis; outer edge; outer brow
--- (whole numbers here; that they fit 32 bits is for the code that writes them)
-pub record Row : Type 0 where
-  pub station : ℤ
-  pub widening : ℤ
-  pub innerBrow : ℤ
-  pub innerEdge : ℤ
-  pub axis : ℤ
-  pub outerEdge : ℤ
-  pub outerBrow : ℤ
-
 abbrev pub cells : Row → List ℤ
-cells r = r .station ∷ r .widening ∷ r .innerBrow ∷ r .innerEdge ∷ r .axis ∷ r .outerEdge ∷ r .outerBrow ∷ []
+cells r = r .station ∷ r .widening ∷ r .«inner_brow» ∷ r .«inner_edge» ∷ r .axis ∷ r .«outer_edge» ∷ r .«outer_brow» ∷ []
 
 -- the row at the station d, in counts of the unit; the widening is in mm, 1000 micrometres each
 unfoldable pub row : Section → ℕ → ℕ → Row
@@ -53,11 +44,11 @@ row x unit d =
     record {
       station = pos d;
       widening = inUnits unit (whole 1000 ⊗ widening x (whole d));
-      innerBrow = inUnits unit (innerBrow x (whole d));
-      innerEdge = inUnits unit (innerEdge x (whole d));
+      «inner_brow» = inUnits unit (innerBrow x (whole d));
+      «inner_edge» = inUnits unit (innerEdge x (whole d));
       axis = inUnits unit (axis x);
-      outerEdge = inUnits unit (outerEdge x (whole d));
-      outerBrow = inUnits unit (outerBrow x (whole d));
+      «outer_edge» = inUnits unit (outerEdge x (whole d));
+      «outer_brow» = inUnits unit (outerBrow x (whole d));
     }
 
 -- the card's row at the station d

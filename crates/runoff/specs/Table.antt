@@ -7,18 +7,15 @@ use lib.Dec.{eqb}
 use lib.IntN.{ℤ}
 use lib.ListN.{length, drop}
 use Rattle.runoff.specs.declared.Card.{Card}
+use Rattle.runoff.specs.declared.Reply.{Reply}
 use Rattle.runoff.specs.Rows.{rowCount, rows}
 use Rattle.runoff.specs.Refusal.{first, tests}
-
--- an accepted card gives number 0 and the count of rows; a refused card gives its number and count 0
-pub record Reply : Type 0 where
-  pub number : ℕ
-  pub count : ℕ
 
 -- 1 to 11 in rising order, first one met; room is the length of the lent table
 unfoldable pub replyNumber : Card → ℕ → ℕ
 replyNumber card room = first (tests card room)
 
+-- an accepted card gives number 0 and the count of rows; a refused card gives its number and count 0
 unfoldable pub replyTo : Card → ℕ → Reply
 replyTo card room =
     record { number = replyNumber card room; count = cond (eqb (replyNumber card room) 0) (rowCount card) 0 }

@@ -1,12 +1,17 @@
-// The section rules of typical design 503-0-45: the check of a curve card, and the runoff that is made of an accepted one.
+// The section rules of typical design 503-0-45: the check of a curve card, the runoff that is made of an accepted one, and the table of its heights.
 mod conditions;
+mod rounding;
+mod rows;
 mod tables;
+mod turning;
 
 use crate::conditions::is_neither;
 use crate::conditions::is_outside;
 use crate::conditions::is_too_narrow;
 use crate::conditions::is_too_steep;
 use crate::conditions::is_too_wide;
+use crate::rows::row_count;
+use crate::rows::write_rows;
 use crate::tables::CLOTHOIDS;
 use crate::tables::Profile;
 use crate::tables::added_slope;
@@ -15,10 +20,13 @@ use crate::tables::profile_at;
 ghost use mathlib.Core.Path.{_≡_};
 ghost use Rattle.runoff.specs.Clothoid.{leastLength};
 ghost use Prim.Native.Nat.{_≤_};
-ghost use lib.ListN.{drop};
+ghost use denote.Ref.{now};
+ghost use lib.ListN.{length, drop};
 ghost use Rattle.runoff.specs.Refusal.{first, testsBy, refusal};
 ghost use Rattle.runoff.specs.Runoff.{stagesOf, runoffOf, madeOf};
 ghost use Rattle.runoff.specs.Lines.{sectionBy};
+ghost use Rattle.runoff.specs.Table.{replyTo, tableAfter};
+ghost use Rattle.runoff.specs.Climbing.{ClimbingTable};
 
 // A curve card, its eight numbers in the order of the paper: lengths in mm but the radius in metres, the slope in per mille.
 pub struct Card {
@@ -54,6 +62,12 @@ pub struct Runoff {
 pub enum Made {
     Accepted(Runoff),
     Refused(u32),
+}
+
+// What a card and a lent table are answered: 0 and the count of rows, or the number of the reason and 0.
+pub struct Reply {
+    pub number: u32,
+    pub count: u32,
 }
 
 // The least length of a clothoid, in metres, by the radius in metres.
@@ -203,4 +217,28 @@ pub fn make_runoff(card: Card) -> Made
     }
     let runoff = runoff_of(card);
     Made::Accepted(runoff)
+}
+
+// Fills the lent table with the card's rows and says how many; or leaves it as it is and says why.
+pub fn fill_table(card: Card, table: &mut [i32]) -> Reply
+    ensures { λ r. ⌜ r ≡ replyTo card (length (now (table .entry))) ⌝ }
+    ensures { λ r. ⌜ now (table .exit) ≡ tableAfter card (now (table .entry)) ⌝ }
+    ensures { λ r. ⌜ (r .number ≡ 0 → ClimbingTable card (r .count) (now (table .exit))) ⌝ }
+{
+    let number = check_card(card);
+    if number != 0 {
+        return Reply { number, count: 0 };
+    }
+    let rows = row_count(card);
+    let r = runoff_of(card);
+    let room = table.len();
+    if room < 7 * rows {
+        return Reply {
+            number: 11,
+            count: 0,
+        };
+    }
+    write_rows(card, r, rows, table);
+    let count = rows as u32;
+    Reply { number: 0, count }
 }

@@ -1,0 +1,41 @@
+-- What the runoff of an accepted card keeps to, and how many rows it has at most.
+-- Assumes nothing.
+use mathlib.Core.Path.{_≡_, refl}
+use Prim.Native.Nat.{_≤_}
+use native.Mathlib.Omega.{arith}
+use Rattle.runoff.specs.declared.Card.{Card}
+use Rattle.runoff.specs.Refusal.{refusal}
+use Rattle.runoff.specs.Lines.{sectionOf}
+use Rattle.runoff.specs.Rows.{rowCount}
+use Rattle.runoff.specs.Runoff.{runoffOf}
+use Rattle.runoff.specs.Reckoning.{sectionIn, Limits}
+use Rattle.runoff.proofs.Accepts.{accepted-rule}
+use Rattle.runoff.proofs.ClimbingRule.{narrow}
+
+pub same-section : (card : Card) → sectionIn (runoffOf card) ≡ sectionOf card
+unfolding runoffOf
+same-section card = refl
+
+module _ (card : Card) (passes : refusal card ≡ 0) where
+  pub limits-of : Limits (runoffOf card)
+  unfolding runoffOf
+  limits-of =
+      let a = accepted-rule card .exactly .0 passes in
+      let z = accepted-rule card .sizes passes in
+      record {
+        half-least = omega (arith, z .half-least);
+        half-most = z .half-most;
+        shoulder-most = z .shoulder-most;
+        crown-least = omega (arith, z .crown-least);
+        crown-most = z .crown-most;
+        side-most = z .side-most;
+        turned = a .slope-least;
+        slope-most = a .slope-most;
+        long = omega (arith, accepted-rule card .long passes);
+        clothoid-most = a .clothoid-most;
+        narrow = narrow card passes;
+        stages = refl;
+      }
+
+  pub few-rows : rowCount card ≤ 301
+  few-rows = accepted-rule card .few passes

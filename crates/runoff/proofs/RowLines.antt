@@ -1,0 +1,153 @@
+-- Each height of a row as the code reckons it, with the bounds of every product on the way.
+-- Assumes nothing.
+use mathlib.Core.Path.{_≡_}
+use Prim.Native.Nat.{ℕ, _+_, _*_, _-_, _≤_}
+use native.Mathlib.Nat.{mul-le-mul, mul-le-mul-right, mul-pos}
+use native.Mathlib.Omega.{arith}
+use Rattle.exact.specs.Exact.{Exact, whole, ratio, _⊗_}
+use Rattle.exact.specs.Parts.{Is}
+use Rattle.exact.proofs.Is.{is-one, is-times, is-ratio, is-same}
+use Rattle.exact.proofs.Rounded.{rounding-laws}
+use Rattle.runoff.specs.declared.Runoff.{Runoff}
+use Rattle.runoff.specs.declared.turning.Slopes.{Slopes}
+use Rattle.runoff.specs.Lines.{Section, axis, widening, outerEdge, outerBrow, innerEdge, innerBrow}
+use Rattle.runoff.specs.Rows.{tie, inUnits}
+use Rattle.runoff.specs.Reckoning.{sectionIn, Ready, Sized}
+use Rattle.runoff.proofs.StationSlopes.{shoulder-rise, crown-rise}
+use Rattle.runoff.proofs.Heights.{outer-edge, outer-brow, inner-edge, inner-brow, widening-is}
+
+-- x is (a − b)/d, which can be rounded to units of u mm
+pub record Line (x : Exact) (a b d u : ℕ) : Type 0 where
+  pub is : Is x a b d
+  pub sized : Sized a b d u
+
+-- and is rounded as its parts are
+pub counted : {x : Exact} {a b d u : ℕ} → Line x a b d u → inUnits u (ratio a b d) ≡ inUnits u x
+counted {x} {a} {b} {d} {u} f =
+    let parts = is-ratio a b d (f .is .over) in
+    rounding-laws tie (1000 * u) (omega (arith, f .sized .unit)) .same (ratio a b d) x (f .is .over) (f .is .proper) (is-same parts (f .is))
+
+module _ {r : Runoff} {d : ℕ} {s : Slopes} {u : ℕ} (z : Ready r d s u) where
+  abbrev x : Section
+  x = sectionIn r
+
+  abbrev full : ℕ
+  full = x .L * s .over
+
+  abbrev lane : ℕ
+  lane = (x .h * x .L + x .W * d) * s .inner
+
+  abbrev side : ℕ
+  side = (x .c * x .L - x .W * d) * s .shoulder
+
+  axis-most : s .axis ≤ 337500
+  axis-most = omega (arith, z .slopes .axis-is, shoulder-rise r (z .limits), crown-rise r (z .limits))
+
+  pub axis-line : Line (axis x) (s .axis) 0 1 u
+  axis-line =
+      record {
+        is = rw (z .slopes .axis-is) (is-one _);
+        sized =
+            record {
+              some = omega arith;
+              few = omega arith;
+              high = omega (arith, axis-most);
+              low = omega arith;
+              unit = z .unit;
+              units = z .units;
+            };
+      }
+
+  -- the widening leaves the shoulder's outer edge where it is, or on the shoulder's side of it
+  pub widened : x .W * d ≤ x .c * x .L
+  widened = mul-le-mul (z .limits .narrow) (z .on)
+
+  long : x .L * 1 ≡ x .L
+  long = omega arith
+
+  pub widening-line : Line (whole 1000 ⊗ widening x (whole d)) (1000 * (x .W * d)) 0 (x .L) u
+  widening-line =
+      record {
+        is = is-times 1000 (rw long at (widening-is x (is-one d) (z .limits .long)));
+        sized =
+            record {
+              some = z .limits .long;
+              few = omega (arith, z .limits .clothoid-most);
+              high = omega (arith, widened, mul-le-mul-right (x .L) (z .limits .shoulder-most));
+              low = omega arith;
+              unit = z .unit;
+              units = z .units;
+            };
+      }
+
+  outer-sized : (w : ℕ) → w ≤ 7500 → Sized (s .axis * s .over + w * s .up) (w * s .down) (s .over) u
+  outer-sized w h =
+      record {
+        some = z .slopes .outer-is .over;
+        few = omega (arith, z .slopes .few);
+        high = omega (arith, mul-le-mul-right (s .over) axis-most, mul-le-mul h (z .slopes .high));
+        low = omega (arith, mul-le-mul h (z .slopes .low));
+        unit = z .unit;
+        units = z .units;
+      }
+
+  pub outer-edge-line : Line (outerEdge x (whole d)) (s .axis * s .over + x .h * s .up) (x .h * s .down) (s .over) u
+  outer-edge-line =
+      record {
+        is = rw (z .slopes .axis-is) (outer-edge x (whole d) (z .slopes .outer-is));
+        sized = outer-sized (x .h) (omega (arith, z .limits .half-most));
+      }
+
+  pub outer-brow-line :
+      Line (outerBrow x (whole d)) (s .axis * s .over + (x .h + x .c) * s .up) ((x .h + x .c) * s .down) (s .over) u
+  outer-brow-line =
+      record {
+        is = rw (z .slopes .axis-is) (outer-brow x (whole d) (z .slopes .outer-is));
+        sized = outer-sized (x .h + x .c) (omega (arith, z .limits .half-most, z .limits .shoulder-most));
+      }
+
+  full-few : full ≤ 270000000000
+  full-few = mul-le-mul (z .limits .clothoid-most) (z .slopes .few)
+
+  -- what the inner heights are made of
+  pub lane-few : x .h * x .L + x .W * d ≤ 7500 * x .L
+  lane-few = omega (arith, widened, mul-le-mul-right (x .L) (z .limits .shoulder-most), mul-le-mul-right (x .L) (z .limits .half-most))
+
+  pub shoulder-few : x .c * x .L ≤ 3750 * x .L
+  shoulder-few = mul-le-mul-right (x .L) (z .limits .shoulder-most)
+
+  pub long-few : x .L ≤ 300000
+  long-few = z .limits .clothoid-most
+
+  lane-most : lane ≤ 450000 * full
+  lane-most = omega (arith, mul-le-mul lane-few (z .slopes .inner-high))
+
+  side-most : side ≤ 225000 * full
+  side-most = omega (arith, mul-le-mul {n₁ = x .c * x .L - x .W * d} {n₂ = 3750 * x .L} (omega (arith, shoulder-few)) (z .slopes .shoulder-high))
+
+  inner-sized : (b : ℕ) → b ≤ lane + side → Sized (s .axis * full) b full u
+  inner-sized b h =
+      record {
+        some = mul-pos (z .limits .long) (z .slopes .outer-is .over);
+        few = full-few;
+        high = omega (arith, mul-le-mul-right full axis-most);
+        low = omega (arith, lane-most, side-most);
+        unit = z .unit;
+        units = z .units;
+      }
+
+  pub inner-edge-line : Line (innerEdge x (whole d)) (s .axis * full) lane full u
+  inner-edge-line =
+      record {
+        is = rw (z .slopes .axis-is) (rw long at (inner-edge x (is-one d) (z .limits .long) (z .slopes .inner-is)));
+        sized = inner-sized lane (omega arith);
+      }
+
+  pub inner-brow-line : Line (innerBrow x (whole d)) (s .axis * full) (lane + side) full u
+  inner-brow-line =
+      record {
+        is =
+            rw (z .slopes .axis-is)
+            (rw long at (inner-brow x (is-one d) (z .limits .long) (z .slopes .inner-is) (omega (arith, widened)) (z .slopes .shoulder-is)));
+        sized = inner-sized (lane + side) (omega arith);
+      }

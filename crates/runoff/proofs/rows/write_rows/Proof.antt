@@ -1,0 +1,137 @@
+-- `runoff::rows::write_rows` meets its contract. The loop's invariant: the first i rows are written, and past them stands what stood there.
+-- Assumes nothing.
+use mathlib.Core.Path.{_≡_, refl, ap, ap₂, _∙_}
+use mathlib.Core.List.{List, _++_}
+use Prim.Native.Nat.{ℕ, _+_, _*_, _-_, _≤_}
+use native.Mathlib.Omega.{arith}
+use lib.IntN.{ℤ}
+use lib.ListN.{length, drop}
+use denote.Ref.{now}
+use borrow.Author.Needs.{needs}
+use borrow.Rule.Slice.PartMut.{putMid}
+use Rattle.runoff.specs.declared.Card.{Card}
+use Rattle.runoff.specs.declared.Runoff.{Runoff}
+use Rattle.runoff.specs.Rows.{row, cells, rowOf, rowCount, stationOf, joined}
+use Rattle.runoff.specs.Runoff.{runoffOf}
+use Rattle.runoff.specs.Reckoning.{sectionIn}
+use Rattle.runoff.proofs.RowBlocks.{firstRows, next-row, all-rows}
+use Rattle.runoff.proofs.RowPlaces.{station-most}
+use Rattle.runoff.proofs.Accepts.{unit-in}
+use Rattle.runoff.proofs.Limits.{same-section, limits-of}
+use Rattle.runoff.proofs.rows.write_rows.Statement.{statement}
+use Rattle.runoff.proofs.rows.write_rows.Tie as tie
+
+record Going (card : Card) (count : ℕ) (old table : List ℤ) (i : ℕ) : Type 0 where
+  most : i ≤ count
+  long : length table ≡ length old
+  so-far : table ≡ firstRows card i ++ drop (7 * i) old
+
+abbrev Inv-loop : tie.InvT-loop
+Inv-loop card r count table₀ unit i₀ table i = Going card count table₀ table i
+
+abbrev μ-loop : tie.MeasureT-loop
+μ-loop card r count table₀ unit i₀ table i = count - i
+
+-- the row that is reckoned, of the runoff r at the station d, is row i of the card
+row-is :
+    (card : Card) (i : ℕ) {r : Runoff} {d : ℕ} → r ≡ runoffOf card → d ≡ stationOf card i →
+    row (sectionIn r) (card .unit) d ≡ rowOf card (stationOf card i)
+row-is card i is at = ap₂ (λ x e. row x (card .unit) e) (ap sectionIn is ∙ same-section card) at
+
+cast-unit : tie.Need-cast-unit Inv-loop μ-loop
+cast-unit c = search needs
+
+loop-holds : tie.Need-loop-holds Inv-loop μ-loop
+unfolding joined
+loop-holds c = record { most = omega arith; long = refl; so-far = refl }
+
+station-of-requires : tie.Need-station-of-requires Inv-loop μ-loop
+station-of-requires c κs = (c .before .before .before .pre .0 .0, omega arith)
+
+on : (card : Card) (i : ℕ) → stationOf card i ≤ runoffOf card .clothoid
+unfolding runoffOf
+on card i = station-most card i
+
+row-at-requires : tie.Need-row-at-requires Inv-loop μ-loop
+row-at-requires c κs =
+    let start = c .before .before .before .before in
+    let card = start .args .card in
+    let passes = start .pre .0 .0 in
+    let is = start .pre .0 .1 in
+    let unit = unit-in card passes in
+    (rw is (limits-of card passes), rw (c .station-of .ensures, is) (on card _), unit .0, unit .1)
+
+mul-at : tie.Need-mul-at Inv-loop μ-loop
+mul-at c = omega arith
+
+add-end : tie.Need-add-end Inv-loop μ-loop
+add-end c = omega arith
+
+mul-write-row : tie.Need-mul-write-row Inv-loop μ-loop
+mul-write-row c = omega arith
+
+sub-write-row : tie.Need-sub-write-row Inv-loop μ-loop
+sub-write-row c = omega arith
+
+part-write-row-start : tie.Need-part-write-row-start Inv-loop μ-loop
+part-write-row-start c = omega arith
+
+part-write-row-end : tie.Need-part-write-row-end Inv-loop μ-loop
+part-write-row-end c = omega arith
+
+write-row-requires : tie.Need-write-row-requires Inv-loop μ-loop
+write-row-requires c κs = omega arith
+
+add-i : tie.Need-add-i Inv-loop μ-loop
+add-i c = omega arith
+
+loop-less : tie.Need-loop-less Inv-loop μ-loop
+loop-less c = omega arith
+
+loop-again : tie.Need-loop-again Inv-loop μ-loop
+loop-again c =
+    let at-loop = c .before .before .before .before .before .before in
+    let start = at-loop .before .before in
+    let card = start .args .card in
+    let i = at-loop .loop .i in
+    let station = c .before .before .before .before .station-of .ensures in
+    let reckoned = c .before .before .before .row-at .ensures ∙ row-is card i (start .pre .0 .1) station in
+    let wrote = c .before .write-row .ensures ∙ ap cells reckoned in
+    record {
+      most = omega arith;
+      long = c .table .given .1 ∙ at-loop .loop .inv .long;
+      so-far = ap₂ (λ t x. putMid (7 * i) (7 * i + 7 - 7 * i) t x) (at-loop .loop .inv .so-far) wrote ∙ next-row card i (now (start .args .table));
+    }
+
+same-length : tie.Need-same-length Inv-loop μ-loop
+same-length c = c .before .loop .inv .long
+
+returns : tie.Need-returns Inv-loop μ-loop
+returns c =
+    let at-loop = c .before in
+    let start = at-loop .before .before in
+    let done : at-loop .loop .i ≡ rowCount (start .args .card) = omega (arith, start .pre .1 .0) in
+    at-loop .loop .inv .so-far ∙ rw (done, all-rows)
+
+pub write-rows-spec : {M : Type 1} → statement M
+write-rows-spec =
+    tie.close
+    (tie.spec
+    Inv-loop
+    μ-loop
+    cast-unit
+    loop-holds
+    station-of-requires
+    row-at-requires
+    mul-at
+    add-end
+    mul-write-row
+    sub-write-row
+    part-write-row-start
+    part-write-row-end
+    write-row-requires
+    add-i
+    loop-less
+    loop-again
+    same-length
+    returns)

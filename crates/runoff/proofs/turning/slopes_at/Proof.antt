@@ -1,0 +1,50 @@
+-- `runoff::turning::slopes_at` meets its contract.
+-- Assumes nothing.
+use native.Mathlib.Omega.{arith}
+use borrow.Author.Needs.{needs}
+use Rattle.runoff.proofs.StationSlopes.{shoulder-rise, crown-rise, crown-most, side-most, all-slopes}
+use Rattle.runoff.proofs.turning.slopes_at.Statement.{statement}
+use Rattle.runoff.proofs.turning.slopes_at.Tie as tie
+
+mul-axis : tie.Need-mul-axis
+mul-axis c = record { fits = omega (arith, shoulder-rise _ (c .pre .0)) }
+
+mul-axis-2 : tie.Need-mul-axis-2
+mul-axis-2 c = record { fits = omega (arith, crown-rise _ (c .pre .0)) }
+
+add-axis : tie.Need-add-axis
+add-axis c = record { fits = omega (arith, shoulder-rise _ (c .pre .0), crown-rise _ (c .pre .0)) }
+
+slope-at-requires : tie.Need-slope-at-requires
+slope-at-requires c κs = search needs
+
+inner-of-requires : tie.Need-inner-of-requires
+inner-of-requires c κs =
+    let f = c .slope-at .ensures in
+    (omega (arith, crown-most _ _ (c .before .pre .0) _ f, f), omega (arith, f))
+
+mul-least : tie.Need-mul-least
+mul-least c =
+    let s = c .before in
+    record { fits = omega (arith, side-most _ _ (s .before .pre .0) _ (s .slope-at .ensures), s .slope-at .ensures) }
+
+greater-requires : tie.Need-greater-requires
+greater-requires c κs = search needs
+
+returns : tie.Need-returns
+returns c =
+    let s = c .before .before in
+    rw (c .greater .ensures, c .before .inner-of .ensures) (all-slopes _ _ (s .before .pre .0) _ (s .slope-at .ensures))
+
+pub slopes-at-spec : {M : Type 1} → statement M
+slopes-at-spec =
+    tie.close
+    (tie.spec
+    mul-axis
+    mul-axis-2
+    add-axis
+    slope-at-requires
+    inner-of-requires
+    mul-least
+    greater-requires
+    returns)

@@ -1,0 +1,162 @@
+// The rows of a table: where they stand, their seven numbers, and how they are written.
+use crate::Card;
+use crate::Runoff;
+use crate::rounding::height;
+use crate::turning::Slopes;
+use crate::turning::slopes_at;
+ghost use mathlib.Core.Path.{_≡_};
+ghost use mathlib.Core.List.{_++_};
+ghost use Prim.Native.Nat.{_*_, _≤_};
+ghost use denote.Ref.{now};
+ghost use lib.ListN.{length, drop};
+ghost use Rattle.runoff.specs.Refusal.{refusal};
+ghost use Rattle.runoff.specs.Runoff.{runoffOf};
+ghost use Rattle.runoff.specs.Rows.{row, cells, rowCount, rows, stationOf};
+ghost use Rattle.runoff.specs.Reckoning.{sectionIn, Limits, Ready, innerSides, outerSides};
+
+// A row: the station in mm, the others in counts of the unit.
+pub(crate) struct Row {
+    pub station: i32,
+    pub widening: i32,
+    pub inner_brow: i32,
+    pub inner_edge: i32,
+    pub axis: i32,
+    pub outer_edge: i32,
+    pub outer_brow: i32,
+}
+
+// The two heights of one side of the road.
+pub(crate) struct Sides {
+    pub brow: i32,
+    pub edge: i32,
+}
+
+// The axis plus the half carriageway, and plus the shoulder too, times the outer slope.
+fn outer_sides(r: Runoff, d: u64, s: Slopes, unit: u64) -> Sides
+    requires { ⌜ Ready r d s unit ⌝ }
+    ensures { λ x. ⌜ x ≡ outerSides (sectionIn r) d unit ⌝ }
+{
+    let h = r.half_width;
+    let c = r.shoulder_width;
+    let up = s.up;
+    let down = s.down;
+    let over = s.over;
+    let axis = s.axis;
+    let base = axis * over;
+    let edge = height(base + h * up, h * down, over, unit);
+    let w = h + c;
+    let brow = height(base + w * up, w * down, over, unit);
+    Sides { brow, edge }
+}
+
+// The axis less the widened lane times the inner slope, and less the rest of the shoulder times its slope too.
+fn inner_sides(r: Runoff, d: u64, s: Slopes, unit: u64) -> Sides
+    requires { ⌜ Ready r d s unit ⌝ }
+    ensures { λ x. ⌜ x ≡ innerSides (sectionIn r) d unit ⌝ }
+{
+    let h = r.half_width;
+    let c = r.shoulder_width;
+    let l = r.clothoid;
+    let w = r.full_widening;
+    let inner = s.inner;
+    let shoulder = s.shoulder;
+    let over = s.over;
+    let axis = s.axis;
+    let widening = w * d;
+    let full = l * over;
+    let base = axis * full;
+    let lane = (h * l + widening) * inner;
+    let edge = height(base, lane, full, unit);
+    let side = (c * l - widening) * shoulder;
+    let brow = height(base, lane + side, full, unit);
+    Sides { brow, edge }
+}
+
+// The row at the station d.
+fn row_at(r: Runoff, d: u64, unit: u64) -> Row
+    requires { ⌜ Limits r × (d ≤ r .clothoid) × (1 ≤ unit) × (unit ≤ 10) ⌝ }
+    ensures { λ x. ⌜ x ≡ row (sectionIn r) unit d ⌝ }
+{
+    let w = r.full_widening;
+    let l = r.clothoid;
+    let s = slopes_at(r, d);
+    let axis_height = s.axis;
+    let inner = inner_sides(r, d, s, unit);
+    let outer = outer_sides(r, d, s, unit);
+    let station = d as i32;
+    let widening = height(1000 * (w * d), 0, l, unit);
+    let axis = height(axis_height, 0, 1, unit);
+    let inner_brow = inner.brow;
+    let inner_edge = inner.edge;
+    let outer_edge = outer.edge;
+    let outer_brow = outer.brow;
+    Row {
+        station,
+        widening,
+        inner_brow,
+        inner_edge,
+        axis,
+        outer_edge,
+        outer_brow,
+    }
+}
+
+// How many rows the card has: the multiples of the step below L, and one at L.
+pub(crate) fn row_count(card: Card) -> usize
+    requires { ⌜ refusal card ≡ 0 ⌝ }
+    ensures { λ r. ⌜ r ≡ rowCount card ⌝ }
+{
+    let clothoid = card.clothoid as usize;
+    let step = card.step as usize;
+    (clothoid + (step - 1)) / step + 1
+}
+
+// The station of row i.
+fn station_of(card: Card, i: usize) -> u64
+    requires { ⌜ (refusal card ≡ 0) × (i ≤ rowCount card) ⌝ }
+    ensures { λ r. ⌜ r ≡ stationOf card i ⌝ }
+{
+    let clothoid = card.clothoid as u64;
+    let step = card.step as u64;
+    let d = (i as u64) * step;
+    if d < clothoid { d } else { clothoid }
+}
+
+// Writes a row over the seven numbers of a table that are lent for it.
+fn write_row(part: &mut [i32], row: Row)
+    requires { ⌜ length (now part) ≡ 7 ⌝ }
+    ensures { λ _. ⌜ now (part .exit) ≡ cells row ⌝ }
+{
+    let station = row.station;
+    let widening = row.widening;
+    let inner_brow = row.inner_brow;
+    let inner_edge = row.inner_edge;
+    let axis = row.axis;
+    let outer_edge = row.outer_edge;
+    let outer_brow = row.outer_brow;
+    part[0] = station;
+    part[1] = widening;
+    part[2] = inner_brow;
+    part[3] = inner_edge;
+    part[4] = axis;
+    part[5] = outer_edge;
+    part[6] = outer_brow;
+}
+
+// Writes the rows of an accepted card into a table that has room for them.
+pub(crate) fn write_rows(card: Card, r: Runoff, count: usize, table: &mut [i32])
+    requires { ⌜ (refusal card ≡ 0) × (r ≡ runoffOf card) ⌝ }
+    requires { ⌜ (count ≡ rowCount card) × (7 * count ≤ length (now table)) ⌝ }
+    ensures { λ _. ⌜ now (table .exit) ≡ rows card ++ drop (7 * rowCount card) (now (table .entry)) ⌝ }
+{
+    let unit = card.unit as u64;
+    let mut i: usize = 0;
+    while i < count {
+        let d = station_of(card, i);
+        let row = row_at(r, d, unit);
+        let at = 7 * i;
+        let end = at + 7;
+        write_row(&mut table[at..end], row);
+        i += 1;
+    }
+}

@@ -1,0 +1,51 @@
+-- `readings::table::fill_with_marks` meets its contract. The loop stays within the table.
+-- Assumes nothing.
+use borrow.Author.Needs.{needs}
+use Prim.Native.Nat.{_≤_, _-_}
+use Rattle.readings.proofs.table.fill_with_marks.Statement.{statement}
+use Rattle.readings.proofs.table.fill_with_marks.Tie as tie
+
+abbrev Inv-loop : tie.InvT-loop
+Inv-loop numbers₀ place₀ numbers place = place ≤ 2128
+
+abbrev μ-loop : tie.MeasureT-loop
+μ-loop numbers₀ place₀ numbers place = 2128 - place
+
+loop-holds : tie.Need-loop-holds Inv-loop μ-loop
+loop-holds c = search needs
+
+mark-requires : tie.Need-mark-requires Inv-loop μ-loop
+mark-requires c κs = search needs
+
+mul-t5 : tie.Need-mul-t5 Inv-loop μ-loop
+mul-t5 c = search needs
+
+element-set-from-numbers : tie.Need-element-set-from-numbers Inv-loop μ-loop
+element-set-from-numbers c = search needs
+
+add-place : tie.Need-add-place Inv-loop μ-loop
+add-place c = search needs
+
+loop-less : tie.Need-loop-less Inv-loop μ-loop
+loop-less c = search needs
+
+loop-again : tie.Need-loop-again Inv-loop μ-loop
+loop-again c = search needs
+
+returns : tie.Need-returns Inv-loop μ-loop
+returns c = search needs
+
+pub fill-with-marks-spec : {M : Type 1} → statement M
+fill-with-marks-spec =
+    tie.close
+    (tie.spec
+    Inv-loop
+    μ-loop
+    loop-holds
+    mark-requires
+    mul-t5
+    element-set-from-numbers
+    add-place
+    loop-less
+    loop-again
+    returns)

@@ -1,0 +1,45 @@
+// Runs the curve cards of a text through the table call and compares what it gives with the figures that the text expects.
+mod run;
+mod table;
+mod tally;
+mod text;
+
+use crate::run::Run;
+use crate::run::no_group;
+use crate::run::print_group;
+use crate::run::run_line;
+use crate::table::ROOM;
+use crate::text::line_end;
+
+// Room for the text of figures, with one byte more than it may have.
+const TEXT_ROOM: usize = 131073;
+
+// Runs each line of the text. A last line without byte 10 is not understood.
+fn run_text(text: &[u8], numbers: &mut [i32; ROOM]) -> Run {
+    let mut run = no_group();
+    let mut from: usize = 0;
+    while from < text.len() {
+        let end = line_end(text, from);
+        if end == text.len() {
+            return run.not_understood();
+        }
+        run = run_line(text, from, end, run, numbers);
+        from = end + 1;
+    }
+    run
+}
+
+fn main() {
+    let mut text = [0u8; TEXT_ROOM];
+    let got = io::read_full(0, &mut text);
+    let mut numbers = [0i32; ROOM];
+    let run = run_text(&text[..got], &mut numbers);
+    print_group(&text, run);
+    let wrong_lines = run.wrong_lines;
+    io::write_all(1, b"lines not understood: ");
+    io::print_decimal(1, wrong_lines as u64);
+    if got == TEXT_ROOM {
+        io::write_all(1, b"\nthe text is too long, and its end was not read");
+    }
+    io::write_all(1, b"\n");
+}

@@ -1,0 +1,79 @@
+// The table that is lent to the call, and what stands in it afterwards.
+ghost use Prim.Native.Nat.{_<_};
+use crate::text::Figure;
+use runoff::Card;
+use runoff::Reply;
+
+// The table has room for 301 rows of seven numbers, the most that a card can have, and for some more that must stay as they are.
+pub(crate) const ROOM: usize = 2128;
+
+// What stands at a place before the call: a number for each place that no row holds.
+fn mark(place: usize) -> i32
+    requires { ⌜ place < 2128 ⌝ }
+{
+    let number = 1000000000 + place;
+    number as i32
+}
+
+pub(crate) fn fill_with_marks(numbers: &mut [i32; ROOM]) {
+    let mut place: usize = 0;
+    while place < ROOM {
+        numbers[place] = mark(place);
+        place += 1;
+    }
+}
+
+// Lends the first numbers of the table to the call, or all of them where it has no more.
+pub(crate) fn run_card(card: Card, lent: usize, numbers: &mut [i32]) -> Reply {
+    if lent < numbers.len() {
+        return runoff::fill_table(card, &mut numbers[..lent]);
+    }
+    runoff::fill_table(card, numbers)
+}
+
+// The first place from which on every number is as it was before the call.
+pub(crate) fn untouched_from(numbers: &[i32; ROOM]) -> u32 {
+    let mut place: usize = ROOM;
+    while place > 0 {
+        let last = place - 1;
+        if numbers[last] != mark(last) {
+            return place as u32;
+        }
+        place = last;
+    }
+    0
+}
+
+// Whether a number of the table is the figure.
+fn is_figure(number: i32, figure: Figure) -> bool {
+    let size = figure.size;
+    if size > 2147483647 {
+        return false;
+    }
+    let value = size as i32;
+    if figure.negative {
+        number == -value
+    } else {
+        number == value
+    }
+}
+
+// Whether a figure stands in a column of a row. It stands in no row past the last that the call counts.
+pub(crate) fn stands(
+    numbers: &[i32; ROOM],
+    count: u32,
+    row: u32,
+    column: usize,
+    figure: Figure,
+) -> bool
+    requires { ⌜ column < 7 ⌝ }
+{
+    if row >= count {
+        return false;
+    }
+    if row > 303 {
+        return false;
+    }
+    let place = (row as usize) * 7 + column;
+    is_figure(numbers[place], figure)
+}

@@ -1,4 +1,5 @@
 // Runs the curve cards of a text through the table call and compares what it gives with the figures that the text expects.
+// The last group of the text has one wrong figure in each line: that its tally counts them all shows that a wrong figure is seen.
 mod run;
 mod table;
 mod tally;

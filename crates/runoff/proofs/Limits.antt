@@ -1,12 +1,10 @@
--- What the runoff of an accepted card keeps to, and how many rows it has at most.
+-- What the runoff of an accepted card keeps to.
 -- Assumes nothing.
 use mathlib.Core.Path.{_≡_, refl}
-use Prim.Native.Nat.{_≤_}
 use native.Mathlib.Omega.{arith}
 use Rattle.runoff.specs.declared.Card.{Card}
 use Rattle.runoff.specs.Refusal.{refusal}
 use Rattle.runoff.specs.Lines.{sectionOf}
-use Rattle.runoff.specs.Rows.{rowCount}
 use Rattle.runoff.specs.Runoff.{runoffOf}
 use Rattle.runoff.specs.Reckoning.{sectionIn, Limits}
 use Rattle.runoff.proofs.Accepts.{accepted-rule}
@@ -36,6 +34,3 @@ module _ (card : Card) (passes : refusal card ≡ 0) where
         narrow = narrow card passes;
         stages = refl;
       }
-
-  pub few-rows : rowCount card ≤ 301
-  few-rows = accepted-rule card .few passes

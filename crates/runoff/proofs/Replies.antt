@@ -13,7 +13,7 @@ use Rattle.runoff.specs.declared.Card.{Card}
 use Rattle.runoff.specs.declared.Reply.{Reply}
 use Rattle.runoff.specs.Words.{_below_}
 use Rattle.runoff.specs.Refusal.{Test, test, first, ownTests, refusal}
-use Rattle.runoff.specs.Rows.{rowCount, rows}
+use Rattle.runoff.specs.Rows.{rowCount, rowWidth, rows}
 use Rattle.runoff.specs.Table.{replyNumber, replyTo, tableAfter}
 use Rattle.runoff.specs.Climbing.{ClimbingTable}
 use Rattle.runoff.proofs.Accepts.{numbered}
@@ -35,18 +35,18 @@ first-then (x ∷ xs) us t =
 
 -- ---- the number of the reply
 module _ (card : Card) (room : ℕ) where
-  number-is : replyNumber card room ≡ then (refusal card) (cond (room below (7 * rowCount card)) 11 0)
+  number-is : replyNumber card room ≡ then (refusal card) (cond (room below (rowWidth * rowCount card)) 11 0)
   unfolding replyNumber refusal
-  number-is = first-then (ownTests card) (test 11 (room below (7 * rowCount card)) ∷ []) refl
+  number-is = first-then (ownTests card) (test 11 (room below (rowWidth * rowCount card)) ∷ []) refl
 
   number-own : (refusal card ≡ 0 → ⊥) → replyNumber card room ≡ refusal card
   number-own ne = number-is ∙ rw (ne-eqb (refusal card) 0 ne)
 
-  number-short : refusal card ≡ 0 → room < 7 * rowCount card → replyNumber card room ≡ 11
-  number-short e h = number-is ∙ rw (e, lt-ltb room (7 * rowCount card) h)
+  number-short : refusal card ≡ 0 → room < rowWidth * rowCount card → replyNumber card room ≡ 11
+  number-short e h = number-is ∙ rw (e, lt-ltb room (rowWidth * rowCount card) h)
 
-  number-none : refusal card ≡ 0 → 7 * rowCount card ≤ room → replyNumber card room ≡ 0
-  number-none e h = number-is ∙ rw (e, le-ltb room (7 * rowCount card) h)
+  number-none : refusal card ≡ 0 → rowWidth * rowCount card ≤ room → replyNumber card room ≡ 0
+  number-none e h = number-is ∙ rw (e, le-ltb room (rowWidth * rowCount card) h)
 
 -- ---- the reply r, and the table afterwards, are what a card and the table `old` are due
 abbrev Due : Card → List ℤ → Reply → List ℤ → Type 0
@@ -63,14 +63,14 @@ module _ (card : Card) (old : List ℤ) where
   refused {n} is ne = turned-away n (number-own card (length old) (λ z. ne (is ∙ z)) ∙ sym is) ne
 
   -- short of room for the rows that it counts
-  pub short : {count : ℕ} → refusal card ≡ 0 → count ≡ rowCount card → length old < 7 * count → Due card old (record { number = 11; count = 0 }) old
+  pub short : {count : ℕ} → refusal card ≡ 0 → count ≡ rowCount card → length old < rowWidth * count → Due card old (record { number = 11; count = 0 }) old
   short passes is h = turned-away 11 (number-short card (length old) passes (rw is at h)) (λ z. omega arith)
 
   -- accepted, and the rows are written
   pub filled :
-      {count : ℕ} {table : List ℤ} → refusal card ≡ 0 → count ≡ rowCount card → 7 * count ≤ length old →
-      table ≡ rows card ++ drop (7 * rowCount card) old → Due card old (record { number = 0; count = count }) table
+      {count : ℕ} {table : List ℤ} → refusal card ≡ 0 → count ≡ rowCount card → rowWidth * count ≤ length old →
+      table ≡ rows card ++ drop (rowWidth * rowCount card) old → Due card old (record { number = 0; count = count }) table
   unfolding replyTo tableAfter
   filled passes is h wrote =
       let e = number-none card (length old) passes (rw is at h) in
-      (rw (is, e), (wrote ∙ rw e, λ _. rw (is, wrote) (climbing-table card (drop (7 * rowCount card) old) passes)))
+      (rw (is, e), (wrote ∙ rw e, λ _. rw (is, wrote) (climbing-table card (drop (rowWidth * rowCount card) old) passes)))

@@ -7,7 +7,7 @@ use lib.IntN.{ℤ, pos}
 use lib.ListN.{length, drop, getD}
 use borrow.Rule.Slice.PartMut.{putMid}
 use Rattle.runoff.specs.declared.Card.{Card}
-use Rattle.runoff.specs.Rows.{cells, rowOf, rowCount, stationOf, joined, rows}
+use Rattle.runoff.specs.Rows.{cells, rowOf, rowCount, rowWidth, stationOf, joined, rows}
 use Rattle.runoff.proofs.Joined.{length-joined, next, at-place}
 
 module _ (card : Card) where
@@ -21,20 +21,20 @@ module _ (card : Card) where
   -- row i is written into its part of the table: one row more
   pub next-row :
       (i : ℕ) (old : List ℤ) →
-      putMid (7 * i) (7 * i + 7 - 7 * i) (firstRows i ++ drop (7 * i) old) (block i) ≡ firstRows (i + 1) ++ drop (7 * (i + 1)) old
-  next-row = next block 7 (λ i. refl)
+      putMid (rowWidth * i) (rowWidth * i + rowWidth - rowWidth * i) (firstRows i ++ drop (rowWidth * i) old) (block i) ≡ firstRows (i + 1) ++ drop (rowWidth * (i + 1)) old
+  next-row = next block rowWidth (λ i. refl)
 
   pub all-rows : firstRows (rowCount card) ≡ rows card
   unfolding rows
   all-rows = refl
 
-  pub length-rows : length (rows card) ≡ 7 * rowCount card
+  pub length-rows : length (rows card) ≡ rowWidth * rowCount card
   unfolding rows
-  length-rows = length-joined block 7 (λ i. refl) (rowCount card)
+  length-rows = length-joined block rowWidth (λ i. refl) (rowCount card)
 
   -- number m of row i
   pub number-in :
-      (rest : List ℤ) (i m : ℕ) → i < rowCount card → m < 7 →
-      getD (rows card ++ rest) (7 * i + m) (pos 0) ≡ getD (block i) m (pos 0)
+      (rest : List ℤ) (i m : ℕ) → i < rowCount card → m < rowWidth →
+      getD (rows card ++ rest) (rowWidth * i + m) (pos 0) ≡ getD (block i) m (pos 0)
   unfolding rows
-  number-in rest i m h g = at-place block 7 (λ i. refl) (rowCount card) i m h g rest (pos 0)
+  number-in rest i m h g = at-place block rowWidth (λ i. refl) (rowCount card) i m h g rest (pos 0)

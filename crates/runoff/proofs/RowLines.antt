@@ -58,7 +58,7 @@ module _ {r : Runoff} {d : ℕ} {s : Slopes} {u : ℕ} (z : Ready r d s u) where
             };
       }
 
-  -- the widening leaves the shoulder's outer edge where it is, or on the shoulder's side of it
+  -- the widening takes no more than the shoulder
   pub widened : x .W * d ≤ x .c * x .L
   widened = mul-le-mul (z .limits .narrow) (z .on)
 

@@ -11,7 +11,7 @@ use Rattle.exact.specs.Exact.{Exact, frac, whole, _⊕_, _⊖_, _⊗_, _≼_, _
 use Rattle.exact.specs.Rounding.{units}
 use Rattle.runoff.specs.declared.Card.{Card}
 use Rattle.runoff.specs.Lines.{Section, sectionOf, On, outerEdge, firstReached}
-use Rattle.runoff.specs.Rows.{stationOf, rowOf}
+use Rattle.runoff.specs.Rows.{stationOf, rowWidth, rowOf}
 use Rattle.runoff.specs.Refusal.{refusal}
 use Rattle.runoff.specs.Accepted.{addedOf}
 
@@ -42,14 +42,21 @@ pub record Tabled (added unit : ℕ) (x : Section) (d e : ℕ) (n k : ℤ) : Typ
   pub order : n ≤ℤ k
   pub gentle : tabledHeight unit k ⊖ tabledHeight unit n ≼ whole (1000 * unit) ⊕ whole added ⊗ (whole e ⊖ whole d)
 
+-- the outer-edge numbers n at d and k at e of a card
+abbrev pub TabledOf : Card → ℕ → ℕ → ℤ → ℤ → Type 0
+TabledOf card d e n k = Tabled (addedOf card) (card .unit) (sectionOf card) d e n k
+
 -- the outer edges of a card's rows at the stations d and e
 abbrev pub TabledAt : Card → ℕ → ℕ → Type 0
-TabledAt card d e = Tabled (addedOf card) (card .unit) (sectionOf card) d e (rowOf card d .«outer_edge») (rowOf card e .«outer_edge»)
+TabledAt card d e = TabledOf card d e (rowOf card d .«outer_edge») (rowOf card e .«outer_edge»)
+
+-- the exact heights of a card, for any two stations from its start to the clothoid's end, fractions included
+abbrev pub ClimbsExactly : Card → Type 0
+ClimbsExactly card = (s t : Exact) → On (sectionOf card) s → On (sectionOf card) t → Climbs (addedOf card) (sectionOf card) s t
 
 -- the climbing rule of a card
 pub record ClimbingRule (card : Card) : Type 0 where
-  -- for any two stations from its start to the clothoid's end, fractions included
-  pub exact : (s t : Exact) → On (sectionOf card) s → On (sectionOf card) t → Climbs (addedOf card) (sectionOf card) s t
+  pub exact : ClimbsExactly card
   -- for the rows at any two stations
   pub tabled :
       (d e : ℕ) → d ≤ e → e ≤ card .clothoid →
@@ -62,24 +69,24 @@ abbrev pub ClimbingTheorem : Type 0
 ClimbingTheorem = (card : Card) → refusal card ≡ 0 → ClimbingRule card
 
 -- ---- the table that a call leaves
--- row i of a table takes the numbers from 7 × i on: the station is the first of them, the outer edge the sixth
+-- row i of a table takes the seven numbers from 7 × i on: the station is the first of them, the outer edge the sixth
 abbrev pub stationIn : List ℤ → ℕ → ℤ
-stationIn table i = getD table (7 * i) (pos 0)
+stationIn table i = getD table (rowWidth * i) (pos 0)
 
 abbrev pub outerEdgeIn : List ℤ → ℕ → ℤ
-outerEdgeIn table i = getD table (7 * i + 5) (pos 0)
+outerEdgeIn table i = getD table (rowWidth * i + 5) (pos 0)
 
 -- demand 3 of the numbers in a table whose first count rows are the card's
 pub record ClimbingTable (card : Card) (count : ℕ) (table : List ℤ) : Type 0 where
   -- the counted rows stand in the table
-  pub held : 7 * count ≤ length table
+  pub held : rowWidth * count ≤ length table
   -- each at the station that the rule for rows gives its place
   pub stations : (i : ℕ) → i < count → stationIn table i ≡ pos (stationOf card i)
   -- a later row is farther
   pub farther : (i j : ℕ) → i < j → j < count → stationOf card i < stationOf card j
-  -- the exact heights, at any two stations from the start to the clothoid's end, fractions included
-  pub exact : (s t : Exact) → On (sectionOf card) s → On (sectionOf card) t → Climbs (addedOf card) (sectionOf card) s t
+  -- the exact heights
+  pub exact : ClimbsExactly card
   -- the tabled heights, for any two of the rows, i before j, neighbours or not
   pub rows :
       (i j : ℕ) → i < j → j < count →
-      Tabled (addedOf card) (card .unit) (sectionOf card) (stationOf card i) (stationOf card j) (outerEdgeIn table i) (outerEdgeIn table j)
+      TabledOf card (stationOf card i) (stationOf card j) (outerEdgeIn table i) (outerEdgeIn table j)

@@ -8,7 +8,7 @@ use Rattle.runoff.specs.declared.tables.Profile.{Profile}
 use Rattle.runoff.specs.Words.{_below_, _above_, outside, neither}
 use Rattle.runoff.specs.Profile.{profileAt, addedSlope}
 use Rattle.runoff.specs.Clothoid.{leastLength}
-use Rattle.runoff.specs.Rows.{rowCount}
+use Rattle.runoff.specs.Rows.{rowCount, rowWidth}
 
 -- a reason to refuse: its number, and whether it is met
 pub record Test : Type 0 where
@@ -64,7 +64,7 @@ ownTests card = testsBy (profileAt (card .profile)) card
 
 -- 11, short table: lent table below 7 numbers a row
 abbrev pub tests : Card → ℕ → List Test
-tests card room = ownTests card ++ test 11 (room below (7 * rowCount card)) ∷ []
+tests card room = ownTests card ++ test 11 (room below (rowWidth * rowCount card)) ∷ []
 
 -- the number of the card's own reason: 1 to 10 in rising order, first one met
 unfoldable pub refusal : Card → ℕ

@@ -35,6 +35,10 @@ abbrev pub inUnits : ℕ → Exact → ℤ
 inUnits unit x = rounded tie (1000 * unit) x
 
 -- a row has seven signed 32-bit numbers: station in mm; widening; inner brow; inner edge; axis; outer edge; outer brow
+-- (the struct Row of src/rows.rt, in this order)
+abbrev pub rowWidth : ℕ
+rowWidth = 7
+
 abbrev pub cells : Row → List ℤ
 cells r = r .station ∷ r .widening ∷ r .«inner_brow» ∷ r .«inner_edge» ∷ r .axis ∷ r .«outer_edge» ∷ r .«outer_brow» ∷ []
 

@@ -8,14 +8,14 @@ use lib.IntN.{ℤ}
 use lib.ListN.{length, drop}
 use Rattle.runoff.specs.declared.Card.{Card}
 use Rattle.runoff.specs.declared.Reply.{Reply}
-use Rattle.runoff.specs.Rows.{rowCount, rows}
+use Rattle.runoff.specs.Rows.{rowCount, rowWidth, rows}
 use Rattle.runoff.specs.Refusal.{first, tests}
 
 -- 1 to 11 in rising order, first one met; room is the length of the lent table
 unfoldable pub replyNumber : Card → ℕ → ℕ
 replyNumber card room = first (tests card room)
 
--- an accepted card gives number 0 and the count of rows; a refused card gives its number and count 0
+-- an accepted card gives number 0 and the count of rows; a refused card gives its number and count 0 (the struct Reply of src/lib.rt)
 unfoldable pub replyTo : Card → ℕ → Reply
 replyTo card room =
     record { number = replyNumber card room; count = cond (eqb (replyNumber card room) 0) (rowCount card) 0 }
@@ -23,4 +23,4 @@ replyTo card room =
 -- accepted: the rows, and the numbers after the last row untouched; refused: the whole table untouched
 unfoldable pub tableAfter : Card → List ℤ → List ℤ
 tableAfter card table =
-    cond (eqb (replyNumber card (length table)) 0) (rows card ++ drop (7 * rowCount card) table) table
+    cond (eqb (replyNumber card (length table)) 0) (rows card ++ drop (rowWidth * rowCount card) table) table

@@ -10,6 +10,7 @@ use crate::conditions::is_outside;
 use crate::conditions::is_too_narrow;
 use crate::conditions::is_too_steep;
 use crate::conditions::is_too_wide;
+use crate::rows::ROW_WIDTH;
 use crate::rows::row_count;
 use crate::rows::write_rows;
 use crate::tables::CLOTHOIDS;
@@ -232,7 +233,7 @@ pub fn fill_table(card: Card, table: &mut [i32]) -> Reply
     let rows = row_count(card);
     let r = runoff_of(card);
     let room = table.len();
-    if room < 7 * rows {
+    if room < ROW_WIDTH * rows {
         return Reply {
             number: 11,
             count: 0,

@@ -11,8 +11,11 @@ ghost use denote.Ref.{now};
 ghost use lib.ListN.{length, drop};
 ghost use Rattle.runoff.specs.Refusal.{refusal};
 ghost use Rattle.runoff.specs.Runoff.{runoffOf};
-ghost use Rattle.runoff.specs.Rows.{row, cells, rowCount, rows, stationOf};
+ghost use Rattle.runoff.specs.Rows.{row, cells, rowCount, rowWidth, rows, stationOf};
 ghost use Rattle.runoff.specs.Reckoning.{sectionIn, Limits, Ready, innerSides, outerSides};
+
+// How many numbers a row has in a table.
+pub(crate) const ROW_WIDTH: usize = 7;
 
 // A row: the station in mm, the others in counts of the unit.
 pub(crate) struct Row {
@@ -124,7 +127,7 @@ fn station_of(card: Card, i: usize) -> u64
 
 // Writes a row over the seven numbers of a table that are lent for it.
 fn write_row(part: &mut [i32], row: Row)
-    requires { ⌜ length (now part) ≡ 7 ⌝ }
+    requires { ⌜ length (now part) ≡ rowWidth ⌝ }
     ensures { λ _. ⌜ now (part .exit) ≡ cells row ⌝ }
 {
     let station = row.station;
@@ -146,16 +149,16 @@ fn write_row(part: &mut [i32], row: Row)
 // Writes the rows of an accepted card into a table that has room for them.
 pub(crate) fn write_rows(card: Card, r: Runoff, count: usize, table: &mut [i32])
     requires { ⌜ (refusal card ≡ 0) × (r ≡ runoffOf card) ⌝ }
-    requires { ⌜ (count ≡ rowCount card) × (7 * count ≤ length (now table)) ⌝ }
-    ensures { λ _. ⌜ now (table .exit) ≡ rows card ++ drop (7 * rowCount card) (now (table .entry)) ⌝ }
+    requires { ⌜ (count ≡ rowCount card) × (rowWidth * count ≤ length (now table)) ⌝ }
+    ensures { λ _. ⌜ now (table .exit) ≡ rows card ++ drop (rowWidth * rowCount card) (now (table .entry)) ⌝ }
 {
     let unit = card.unit as u64;
     let mut i: usize = 0;
     while i < count {
         let d = station_of(card, i);
         let row = row_at(r, d, unit);
-        let at = 7 * i;
-        let end = at + 7;
+        let at = ROW_WIDTH * i;
+        let end = at + ROW_WIDTH;
         write_row(&mut table[at..end], row);
         i += 1;
     }

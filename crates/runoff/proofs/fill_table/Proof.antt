@@ -5,7 +5,7 @@ use native.Mathlib.Omega.{arith}
 use denote.Ref.{now}
 use borrow.Author.Needs.{needs}
 use Rattle.runoff.specs.Refusal.{refusal}
-use Rattle.runoff.proofs.Limits.{few-rows}
+use Rattle.runoff.proofs.Accepts.{accepted-rule}
 use Rattle.runoff.proofs.Replies.{refused, short, filled}
 use Rattle.runoff.proofs.fill_table.Statement.{statement}
 use Rattle.runoff.proofs.fill_table.Tie as tie
@@ -32,7 +32,7 @@ write-rows-requires : tie.Need-write-rows-requires
 write-rows-requires c κs = search needs
 
 mul-if2 : tie.Need-mul-if2
-mul-if2 c = omega (arith, c .before .row-count .ensures, few-rows _ (none (c .before .before)))
+mul-if2 c = omega (arith, c .before .row-count .ensures, accepted-rule _ .few (none (c .before .before)))
 
 returns-2 : tie.Need-returns-2
 returns-2 c =
@@ -43,7 +43,7 @@ returns-2 c =
 cast-count : tie.Need-cast-count
 cast-count c =
     let counted = c .before .before .before .before .before in
-    omega (arith, counted .row-count .ensures, few-rows _ (none (counted .before)))
+    omega (arith, counted .row-count .ensures, accepted-rule _ .few (none (counted .before)))
 
 same-length : tie.Need-same-length
 same-length c = search needs

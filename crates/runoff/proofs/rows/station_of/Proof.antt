@@ -7,8 +7,7 @@ use borrow.Author.Needs.{needs}
 use borrow.Author.Tests.{lt-ltb, le-ltb}
 use Rattle.runoff.specs.declared.Card.{Card}
 use Rattle.runoff.specs.Rows.{stationOf}
-use Rattle.runoff.proofs.Accepts.{accepted}
-use Rattle.runoff.proofs.Limits.{few-rows}
+use Rattle.runoff.proofs.Accepts.{accepted, accepted-rule}
 use Rattle.runoff.proofs.Product.{product-below}
 use Rattle.runoff.proofs.rows.station_of.Statement.{statement}
 use Rattle.runoff.proofs.rows.station_of.Tie as tie
@@ -28,7 +27,7 @@ cast-step c = search needs
 mul-d : tie.Need-mul-d
 mul-d c =
     let pre = c .before .before .pre in
-    record { fits = product-below 32 (omega (arith, few-rows _ (pre .0))) (omega (arith, accepted _ (pre .0) .step-most)) }
+    record { fits = product-below 32 (omega (arith, accepted-rule _ .few (pre .0))) (omega (arith, accepted _ (pre .0) .step-most)) }
 
 returns : tie.Need-returns
 returns c = below (c .before .before .before .args .card) _ (c .if1 .taken)

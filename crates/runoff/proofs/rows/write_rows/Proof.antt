@@ -11,7 +11,7 @@ use borrow.Author.Needs.{needs}
 use borrow.Rule.Slice.PartMut.{putMid}
 use Rattle.runoff.specs.declared.Card.{Card}
 use Rattle.runoff.specs.declared.Runoff.{Runoff}
-use Rattle.runoff.specs.Rows.{row, cells, rowOf, rowCount, stationOf, joined}
+use Rattle.runoff.specs.Rows.{row, cells, rowOf, rowCount, rowWidth, stationOf, joined}
 use Rattle.runoff.specs.Runoff.{runoffOf}
 use Rattle.runoff.specs.Reckoning.{sectionIn}
 use Rattle.runoff.proofs.RowBlocks.{firstRows, next-row, all-rows}
@@ -24,7 +24,7 @@ use Rattle.runoff.proofs.rows.write_rows.Tie as tie
 record Going (card : Card) (count : ℕ) (old table : List ℤ) (i : ℕ) : Type 0 where
   most : i ≤ count
   long : length table ≡ length old
-  so-far : table ≡ firstRows card i ++ drop (7 * i) old
+  so-far : table ≡ firstRows card i ++ drop (rowWidth * i) old
 
 abbrev Inv-loop : tie.InvT-loop
 Inv-loop card r count table₀ unit i₀ table i = Going card count table₀ table i
@@ -100,7 +100,7 @@ loop-again c =
     record {
       most = omega arith;
       long = c .table .given .1 ∙ at-loop .loop .inv .long;
-      so-far = ap₂ (λ t x. putMid (7 * i) (7 * i + 7 - 7 * i) t x) (at-loop .loop .inv .so-far) wrote ∙ next-row card i (now (start .args .table));
+      so-far = ap₂ (λ t x. putMid (rowWidth * i) (rowWidth * i + rowWidth - rowWidth * i) t x) (at-loop .loop .inv .so-far) wrote ∙ next-row card i (now (start .args .table));
     }
 
 same-length : tie.Need-same-length Inv-loop μ-loop

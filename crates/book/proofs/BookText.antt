@@ -1,0 +1,148 @@
+-- The text of a book: where its lines stand, how long it is, and its curves read from the list of their numbers.
+-- Assumes nothing.
+use Prim.Native.Nat.{ℕ, zero, suc, _+_, _*_, _/_, _%_, _≤_}
+use mathlib.Core.Path.{_≡_, refl, sym, ap, _∙_, subst}
+use mathlib.Core.List.{List, [], _∷_, _++_, append-assoc, append-nil}
+use native.Mathlib.Omega.{arith}
+use native.Mathlib.Nat.{zero-add}
+use lib.ListN.{length, take, drop, length-append}
+use lib.Seq.{take-append-seam, take-at, drop-at, drop-length}
+use lib.Dec.{ltb}
+use Rattle.book.specs.Body.{cardNumbers, endOf}
+use Rattle.book.specs.Book.{mostBytes}
+use Rattle.book.specs.Printed.{Each, IsName, IsBody, IsBook, Curve, digitsText, numberText, contentsText, contentsTexts, bodyText, bodyTexts, namesOf, bodiesOf, bookText}
+use Rattle.book.specs.LineMeaning.{Stands}
+use Rattle.book.specs.Meaning.{entries, curveIn, curvesIn}
+use Rattle.book.proofs.Places.{cond-case}
+use Rattle.book.proofs.Standing.{stands-front, stands-back}
+
+-- a name and a body for each curve
+pub names-length : (curves : List Curve) → length (namesOf curves) ≡ length curves
+unfolding namesOf
+names-length [] = refl
+names-length (curve ∷ curves) = ap suc (names-length curves)
+
+pub bodies-length : (curves : List Curve) → length (bodiesOf curves) ≡ length curves
+unfolding bodiesOf
+bodies-length [] = refl
+bodies-length (curve ∷ curves) = ap suc (bodies-length curves)
+
+-- Lengths.
+digits-most : (k v : ℕ) → length (digitsText k v) ≤ k
+unfolding digitsText
+digits-most zero v = omega arith
+digits-most (suc k) v =
+    cond-case (λ (l : List ℕ). length l ≤ suc k) (ltb v 10) _ _ (λ t. omega arith)
+    (λ t. omega (arith, length-append (digitsText k (v / 10)) ((48 + v % 10) ∷ []), digits-most k (v / 10)))
+
+number-most : (v end : ℕ) → length (numberText v end) ≤ 8
+number-most v end = omega (arith, length-append (digitsText 7 v) (end ∷ []), digits-most 7 v)
+
+body-most : (numbers : List ℕ) → length (bodyText numbers) ≤ 8 * length numbers
+unfolding bodyText
+body-most [] = omega arith
+body-most (v ∷ numbers) =
+    omega (arith, length-append (numberText v (endOf (length numbers))) (bodyText numbers), number-most v (endOf (length numbers)), body-most numbers)
+
+bodies-most : (bodies : List (List ℕ)) → Each IsBody bodies → length (bodyTexts bodies) ≤ 64 * length bodies
+unfolding Each bodyTexts
+bodies-most [] eights = omega arith
+bodies-most (numbers ∷ bodies) eights =
+    omega (arith, length-append (bodyText numbers) (bodyTexts bodies), body-most numbers, eights .0 .eight, bodies-most bodies (eights .1))
+
+contents-most : (line : ℕ) (names : List (List ℕ)) → Each IsName names → length (contentsTexts line names) ≤ 17 * length names
+unfolding Each contentsTexts
+contents-most line [] known = omega arith
+contents-most line (name ∷ names) known =
+    omega (
+      arith,
+      length-append (contentsText name line) (contentsTexts (line + 1) names),
+      length-append name (32 ∷ numberText line 10),
+      number-most line 10,
+      known .0 .short,
+      contents-most (line + 1) names (known .1),
+    )
+
+module _ (curves : List Curve) where
+  abbrev count : ℕ
+  count = length curves
+
+  abbrev countLine : List ℕ
+  countLine = numberText count 10
+
+  abbrev contents : List ℕ
+  contents = contentsTexts (count + 2) (namesOf curves)
+
+  abbrev bodies : List ℕ
+  bodies = bodyTexts (bodiesOf curves)
+
+  text-length : length (bookText curves) ≡ length countLine + (length contents + length bodies)
+  unfolding bookText
+  text-length = length-append countLine (contents ++ bodies) ∙ ap (λ (k : ℕ). length countLine + k) (length-append contents bodies)
+
+  pub book-short : IsBook curves → length (bookText curves) ≤ mostBytes
+  book-short book =
+      omega (
+        arith,
+        text-length,
+        number-most count 10,
+        contents-most (count + 2) (namesOf curves) (book .names),
+        bodies-most (bodiesOf curves) (book .bodies),
+        names-length curves,
+        bodies-length curves,
+        book .few,
+      )
+
+  pub book-some : length (bookText curves) ≡ 0 → ⊥
+  book-some e = absurd (omega (arith, text-length, length-append (digitsText 7 count) (10 ∷ [])))
+
+  -- Places: the lines of a book stand behind each other.
+  whole : Stands (bookText curves) 0 (countLine ++ (contents ++ bodies)) (length (bookText curves))
+  unfolding bookText
+  whole = record {
+    there = sym (append-nil (bookText curves)) ∙ ap (λ (r : List ℕ). bookText curves ++ r) (sym (drop-length (bookText curves)));
+    after = sym (zero-add (length (bookText curves)));
+  }
+
+  -- the place of the first contents line, and that of the first body
+  abbrev pub contentsPlace : ℕ
+  contentsPlace = length countLine
+
+  abbrev pub bodiesPlace : ℕ
+  bodiesPlace = contentsPlace + length contents
+
+  pub count-stands : Stands (bookText curves) 0 countLine contentsPlace
+  count-stands = subst (Stands (bookText curves) 0 countLine) (zero-add contentsPlace) (stands-front countLine (contents ++ bodies) whole)
+
+  behind-count : Stands (bookText curves) contentsPlace (contents ++ bodies) (length (bookText curves))
+  behind-count =
+      subst (λ (p : ℕ). Stands (bookText curves) p (contents ++ bodies) (length (bookText curves))) (zero-add contentsPlace)
+      (stands-back countLine (contents ++ bodies) whole)
+
+  pub contents-stand : Stands (bookText curves) contentsPlace contents bodiesPlace
+  contents-stand = stands-front contents bodies behind-count
+
+  pub bodies-stand : Stands (bookText curves) bodiesPlace bodies (length (bookText curves))
+  bodies-stand = stands-back contents bodies behind-count
+
+-- the curves of the list that a book fills
+pub curves-read : (text : List ℕ) (curves : List Curve) (at line end : ℕ) (rest : List ℕ) → Each IsBody (bodiesOf curves)
+    → Stands text at (contentsTexts line (namesOf curves)) end → curvesIn (length curves) text (entries at line curves ++ rest) ≡ curves
+unfolding Each namesOf bodiesOf contentsTexts entries curvesIn curveIn
+curves-read text [] at line end rest eights s = refl
+curves-read text (curve ∷ curves) at line end rest eights s =
+    let next : ℕ = at + length (contentsText (curve .name) line) in
+    let later : List ℕ = entries next (line + 1) curves in
+    let first : Stands text at (contentsText (curve .name) line) next = stands-front (contentsText (curve .name) line) _ s in
+    let name : take (length (curve .name)) (drop at text) ≡ curve .name =
+    ap (take (length (curve .name))) (first .there ∙ append-assoc (curve .name) (32 ∷ numberText line 10) (drop next text))
+    ∙ take-append-seam (curve .name) _ in
+    let joined : curve .numbers ++ later ++ rest ≡ curve .numbers ++ (later ++ rest) = append-assoc (curve .numbers) later rest in
+    let numbers : take cardNumbers (curve .numbers ++ later ++ rest) ≡ curve .numbers =
+    ap (take cardNumbers) joined ∙ take-at (curve .numbers) (later ++ rest) cardNumbers (eights .0 .eight) in
+    let others : drop cardNumbers (curve .numbers ++ later ++ rest) ≡ later ++ rest =
+    ap (drop cardNumbers) joined ∙ drop-at (curve .numbers) (later ++ rest) cardNumbers (eights .0 .eight) in
+    let tail : curvesIn (length curves) text (drop cardNumbers (curve .numbers ++ later ++ rest)) ≡ curves =
+    ap (curvesIn (length curves) text) others
+    ∙ curves-read text curves next (line + 1) end rest (eights .1) (stands-back (contentsText (curve .name) line) _ s) in
+    λ i. record { name = name i; numbers = numbers i } ∷ tail i

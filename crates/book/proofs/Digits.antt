@@ -1,0 +1,50 @@
+-- Laws of the text of a number.
+-- Assumes nothing.
+use Prim.Native.Nat.{ℕ, zero, suc, _+_, _*_, _/_, _%_, _^_, _≤_, _<_}
+use mathlib.Core.Path.{_≡_, sym, ap, _∙_}
+use mathlib.Core.List.{List, [], _∷_, _++_}
+use native.Mathlib.Omega.{arith}
+use native.Mathlib.Nat.{pow-suc, pow-le-pow-right, lt-of-lt-of-le}
+use lib.Dec.{ltb, lit<}
+use borrow.Author.Tests.{lt-ltb, le-ltb, ltb-true, ltb-false}
+use Rattle.book.specs.Printed.{digitsText}
+use Rattle.book.proofs.Places.{cond-case}
+
+-- a number has one digit or more
+pub digit-or : {A : Type 0} (v : ℕ) → (v < 10 → A) → (10 ≤ v → A) → A
+digit-or {A} v one more = cond-case (λ (u : Unit {0}). A) (ltb v 10) tt tt (λ t. one (ltb-true v 10 t)) (λ t. more (ltb-false v 10 t))
+
+pub text-one : (k v : ℕ) → v < 10 → digitsText (suc k) v ≡ (48 + v) ∷ []
+unfolding digitsText
+text-one k v h = simp (lt-ltb _ _ h)
+
+pub text-more : (k v : ℕ) → 10 ≤ v → digitsText (suc k) v ≡ digitsText k (v / 10) ++ ((48 + v % 10) ∷ [])
+unfolding digitsText
+text-more k v h = simp (le-ltb _ _ h)
+
+-- one digit more at the end
+text-next : (k v d : ℕ) → 1 ≤ v → d < 10 → digitsText (suc k) (v * 10 + d) ≡ digitsText k v ++ ((48 + d) ∷ [])
+text-next k v d h l =
+    let q : (v * 10 + d) / 10 ≡ v = omega arith in
+    let r : (v * 10 + d) % 10 ≡ d = omega arith in
+    text-more k (v * 10 + d) (omega arith) ∙ rw (q, r)
+
+-- powers of ten: all digits but the last, and more digits
+pub tenth-below : (n v : ℕ) → v < 10 ^ suc n → v / 10 < 10 ^ n
+tenth-below n v h = omega (arith, pow-suc 10 n)
+
+pub power-wide : (m n v : ℕ) → m ≤ n → v < 10 ^ m → v < 10 ^ n
+power-wide m n v l h = lt-of-lt-of-le h (pow-le-pow-right {n = 10} (lit< tt) {i = m} {j = n} l)
+
+-- a number of at most n + 1 digits has the same text where one digit more may stand
+text-wider : (n v : ℕ) → v < 10 ^ suc n → digitsText (suc n) v ≡ digitsText (suc (suc n)) v
+text-wider zero v h = text-one 0 v h ∙ sym (text-one 1 v h)
+text-wider (suc n) v h =
+    digit-or v (λ l. text-one (suc n) v l ∙ sym (text-one (suc (suc n)) v l))
+    (λ l. text-more (suc n) v l
+    ∙ ap (λ (t : List ℕ). t ++ ((48 + v % 10) ∷ [])) (text-wider n (v / 10) (tenth-below (suc n) v h))
+    ∙ sym (text-more (suc (suc n)) v l))
+
+-- one digit more at the end of a number of at most six digits
+pub text-seven : (v d : ℕ) → 1 ≤ v → v < 10 ^ 6 → d < 10 → digitsText 7 (v * 10 + d) ≡ digitsText 7 v ++ ((48 + d) ∷ [])
+text-seven v d h s l = text-next 6 v d h l ∙ ap (λ (t : List ℕ). t ++ ((48 + d) ∷ [])) (text-wider 5 v s)

@@ -1,0 +1,79 @@
+-- Each curve's card in the list of a book has the curve's own numbers.
+-- Assumes nothing.
+use Prim.Native.Nat.{ℕ, suc, _+_, _*_, _<_}
+use native.Mathlib.Omega.{arith}
+use native.Mathlib.Nat.{add-zero, zero-add}
+use mathlib.Core.Path.{_≡_, sym, ap, _∙_}
+use mathlib.Core.List.{List, [], _∷_, _++_, append-assoc}
+use lib.ListN.{length, getD, drop, List·getD-append}
+use lib.Seq.{drop-append-add, getD-drop}
+use lib.Dec.{lit<}
+use Rattle.book.specs.Body.{cardNumbers}
+use Rattle.book.specs.Book.{curveWidth}
+use Rattle.book.specs.Printed.{Curve, IsBody, Each, bodiesOf, contentsText}
+use Rattle.book.specs.LineMeaning.{Starts}
+use Rattle.book.specs.Meaning.{entries}
+use Rattle.book.specs.Cards.{cardFrom, cardIn, HandedTheorem}
+use Rattle.book.proofs.BookMeaning.{meaning}
+
+-- the numbers of a curve stand in the entries behind ten numbers for each curve before, and two more
+entries-numbers : (before : List Curve) (curve : Curve) (later : List Curve) (at line : ℕ) (rest : List ℕ)
+    → Each IsBody (bodiesOf (before ++ (curve ∷ later)))
+    → Starts (drop (curveWidth * length before + 2) (entries at line (before ++ (curve ∷ later)) ++ rest)) (curve .numbers)
+unfolding entries bodiesOf Each
+entries-numbers [] curve later at line rest bodies =
+    record {
+      rest = entries (at + length (contentsText (curve .name) line)) (line + 1) later ++ rest;
+      whole = append-assoc (curve .numbers) _ rest;
+    }
+entries-numbers (first ∷ before) curve later at line rest bodies =
+    let next = at + length (contentsText (first .name) line) in
+    let others = entries next (line + 1) (before ++ (curve ∷ later)) in
+    let found = entries-numbers before curve later next (line + 1) rest (bodies .1) in
+    let entry = at ∷ length (first .name) ∷ first .numbers in
+    let skipped : curveWidth * suc (length before) + 2 ≡ length entry + (curveWidth * length before + 2) = omega (arith, bodies .0 .eight) in
+    record {
+      rest = found .rest;
+      whole =
+          ap (λ (l : List ℕ). drop (curveWidth * suc (length before) + 2) l) (append-assoc entry others rest)
+          ∙ ap (λ (k : ℕ). drop k (entry ++ (others ++ rest))) skipped
+          ∙ drop-append-add entry (others ++ rest) (curveWidth * length before + 2)
+          ∙ found .whole;
+    }
+
+-- the curve itself has a body of eight numbers
+own-body : (before : List Curve) (curve : Curve) (later : List Curve) → Each IsBody (bodiesOf (before ++ (curve ∷ later))) → IsBody (curve .numbers)
+unfolding bodiesOf Each
+own-body [] curve later bodies = bodies .0
+own-body (first ∷ before) curve later bodies = own-body before curve later (bodies .1)
+
+-- eight numbers that stand in a list from a place on make the same card there as by themselves
+module _ (list : List ℕ) (at : ℕ) (numbers : List ℕ) (found : Starts (drop at list) numbers) (eight : length numbers ≡ cardNumbers) where
+  number-there : (j : ℕ) → j < cardNumbers → getD list (at + j) 0 ≡ getD numbers (0 + j) 0
+  number-there j few =
+      sym (getD-drop at list j 0)
+      ∙ ap (λ (l : List ℕ). getD l j 0) (found .whole)
+      ∙ List·getD-append numbers (found .rest) 0 j (omega arith)
+      ∙ ap (λ (k : ℕ). getD numbers k 0) (sym (zero-add j))
+
+  card-there : cardFrom list at ≡ cardFrom numbers 0
+  unfolding cardFrom
+  card-there =
+      λ i. record {
+        profile = (ap (λ (k : ℕ). getD list k 0) (sym (add-zero at)) ∙ number-there 0 (lit< tt)) i;
+        terrain = number-there 1 (lit< tt) i;
+        radius = number-there 2 (lit< tt) i;
+        clothoid = number-there 3 (lit< tt) i;
+        «full_slope» = number-there 4 (lit< tt) i;
+        «full_widening» = number-there 5 (lit< tt) i;
+        step = number-there 6 (lit< tt) i;
+        unit = number-there 7 (lit< tt) i;
+      }
+
+pub handed-cards : HandedTheorem
+handed-cards before curve later list book room =
+    let curves = before ++ (curve ∷ later) in
+    let rest = drop (curveWidth * length curves) list in
+    let found = entries-numbers before curve later _ _ rest (book .bodies) in
+    ap (λ (l : List ℕ). cardIn l (length before)) (meaning .accepted curves book list room .1)
+    ∙ card-there _ _ (curve .numbers) found (own-body before curve later (book .bodies) .eight)

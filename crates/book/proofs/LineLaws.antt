@@ -1,0 +1,153 @@
+-- Contents lines and bodies at places of a text: how they are read step by step, and that the place after them lies inside the text.
+-- Assumes nothing.
+use Prim.Native.Nat.{ℕ, zero, suc, _+_, _-_, _≤_, _<_}
+use mathlib.Core.Path.{_≡_, refl, sym, ap, _∙_, subst}
+use mathlib.Core.Bool.{true, false}
+use mathlib.Core.List.{List}
+use native.Mathlib.Omega.{arith}
+use lib.ListN.{length}
+use lib.Dec.{eqb, lit<}
+use borrow.Author.Tests.{eqb-false, eq-eqb, ne-eqb}
+use Rattle.book.specs.Number.{numberAt}
+use Rattle.book.specs.Name.{nameAt, twinAt}
+use Rattle.book.specs.Contents.{headed, headingAt, contentsLineOf, contentsLine, headingNext, afterHeading}
+use Rattle.book.specs.Body.{endOf, fieldThen, bodyFrom}
+use Rattle.book.specs.declared.text.Field.{Field}
+use Rattle.book.specs.declared.text.Field.the-variants.{Value, NoValue}
+use Rattle.book.specs.declared.lines.Heading.{Heading}
+use Rattle.book.specs.declared.lines.Heading.the-variants.{Entry, NoEntry}
+use Rattle.book.specs.declared.lines.Line.{Line}
+use Rattle.book.specs.declared.lines.Line.the-variants.{Next, Fault}
+use Rattle.book.proofs.Places.{cond-case, FieldIn, field-in}
+use Rattle.book.proofs.Names.{name-in}
+
+-- a blank stands before another number of a body
+pub end-some : (k : ℕ) → (k ≡ 0 → ⊥) → endOf k ≡ 32
+end-some zero h = absurd (h refl)
+end-some (suc k) h = refl
+
+-- the byte after a number is above 0
+pub end-above : (k : ℕ) → 0 < endOf k
+end-above zero = omega arith
+end-above (suc k) = omega arith
+
+module _ (text : List ℕ) (at k end : ℕ) (more : 0 < k) (ends : end ≡ endOf (k - 1)) where
+  body-turn : bodyFrom k text at ≡ fieldThen (numberAt text at end) (bodyFrom (k - 1) text)
+  unfolding bodyFrom
+  body-turn =
+      let p : k ≡ suc (k - 1) = omega arith in
+      ap (λ (m : ℕ). bodyFrom m text at) p ∙ ap (λ (x : ℕ). fieldThen (numberAt text at x) (bodyFrom (k - 1) text)) (sym ends)
+
+  -- one number of a body
+  pub body-more : {v next : ℕ} → numberAt text at end ≡ Value v next → bodyFrom k text at ≡ bodyFrom (k - 1) text next
+  body-more q = body-turn ∙ ap (λ (f : Field). fieldThen f (bodyFrom (k - 1) text)) q
+
+  -- a malformed one
+  pub body-fault : numberAt text at end ≡ NoValue → bodyFrom k text at ≡ Fault 26
+  body-fault q = body-turn ∙ ap (λ (f : Field). fieldThen f (bodyFrom (k - 1) text)) q
+
+-- after its last number a body ends
+pub body-none : (text : List ℕ) (at k : ℕ) → k ≤ 0 → bodyFrom k text at ≡ Next at
+unfolding bodyFrom
+body-none text at zero h = refl
+body-none text at (suc k) h = absurd (omega arith)
+
+-- the place after a line is at most m
+abbrev LineIn : ℕ → Line → Type 0
+LineIn m (Next p) = p ≤ m
+LineIn m (Fault k) = Unit
+
+field-then-in : (m : ℕ) (f : Field) (go : ℕ → Line) → FieldIn m f → ((p : ℕ) → p ≤ m → LineIn m (go p)) → LineIn m (fieldThen f go)
+field-then-in m (Value v next) go h r = r next h
+field-then-in m NoValue go h r = tt
+
+body-in : (k : ℕ) (text : List ℕ) (at : ℕ) → at ≤ length text → LineIn (length text) (bodyFrom k text at)
+unfolding bodyFrom
+body-in zero text at h = h
+body-in (suc k) text at h =
+    field-then-in (length text) (numberAt text at (endOf k)) (bodyFrom k text) (field-in text (endOf k) (end-above k) at) (λ p l. body-in k text p l)
+
+-- the place after a body lies inside the text or at its end
+pub body-next : (text : List ℕ) (at : ℕ) {p : ℕ} → at ≤ length text → bodyFrom 8 text at ≡ Next p → p ≤ length text
+body-next text at h e = subst (LineIn (length text)) e (body-in 8 text at h)
+
+module _ (text : List ℕ) (at : ℕ) where
+  -- no name, no contents line
+  pub heading-none : nameAt text at ≡ 0 → headingAt text at ≡ NoEntry
+  unfolding headingAt
+  heading-none h = simp (eq-eqb _ _ h)
+
+  -- a name of n bytes, and what the number after it says
+  pub heading-is : (n : ℕ) → n ≡ nameAt text at → (n ≡ 0 → ⊥) → headingAt text at ≡ headed n (numberAt text (at + n + 1) 10)
+  unfolding headingAt
+  heading-is n e h = simp (← e, ne-eqb _ _ h)
+
+-- the place after a contents line and the bytes of its name lie inside the text
+abbrev HeadingIn : List ℕ → ℕ → Heading → Type 0
+HeadingIn text at (Entry n v next) = (next ≤ length text) × (at + n ≤ length text)
+HeadingIn text at NoEntry = Unit
+
+headed-in : (text : List ℕ) (at n : ℕ) (f : Field) → at + n ≤ length text → FieldIn (length text) f → HeadingIn text at (headed n f)
+headed-in text at n (Value v next) l h = (h, l)
+headed-in text at n NoValue l h = tt
+
+heading-in : (text : List ℕ) (at : ℕ) → HeadingIn text at (headingAt text at)
+unfolding headingAt
+heading-in text at =
+    cond-case (HeadingIn text at) (eqb (nameAt text at) 0) _ _ (λ t. tt)
+    (λ t.
+    let z : nameAt text at ≡ 0 → ⊥ = eqb-false _ _ t in
+    headed-in text at (nameAt text at) (numberAt text (at + nameAt text at + 1) 10)
+    (omega (arith, name-in text at (omega arith)))
+    (field-in text 10 (lit< tt) (at + nameAt text at + 1)))
+
+-- the name of a contents line lies inside the text
+pub heading-size : (text : List ℕ) (at : ℕ) {size v next : ℕ} → headingAt text at ≡ Entry size v next → at + size ≤ length text
+heading-size text at e = subst (HeadingIn text at) e (heading-in text at) .1
+
+heading-next-in : (text : List ℕ) (at : ℕ) (h : Heading) → at ≤ length text → HeadingIn text at h → headingNext at h ≤ length text
+heading-next-in text at (Entry n v next) l i = i .0
+heading-next-in text at NoEntry l i = l
+
+-- the place after a contents line lies inside the text or at its end
+pub after-in : (text : List ℕ) (at : ℕ) → at ≤ length text → afterHeading text at ≤ length text
+unfolding afterHeading
+after-in text at l = heading-next-in text at (headingAt text at) l (heading-in text at)
+
+module _ (text earlier : List ℕ) (at due : ℕ) where
+  line-of-in : (h : Heading) → HeadingIn text at h → LineIn (length text) (contentsLineOf text earlier at due h)
+  line-of-in NoEntry h = tt
+  line-of-in (Entry size v next) h =
+      cond-case (LineIn (length text)) (eqb v due) _ _
+      (λ t. cond-case (LineIn (length text)) (twinAt text earlier at size) _ _ (λ u. tt) (λ u. h .0))
+      (λ t. tt)
+
+  contents-in : LineIn (length text) (contentsLine text earlier at due)
+  unfolding contentsLine
+  contents-in = line-of-in (headingAt text at) (heading-in text at)
+
+  -- so does the place after one whose number and name are right
+  pub contents-next : {p : ℕ} → contentsLine text earlier at due ≡ Next p → p ≤ length text
+  contents-next e = subst (LineIn (length text)) e contents-in
+
+  -- 23: malformed
+  pub line-malformed : headingAt text at ≡ NoEntry → contentsLine text earlier at due ≡ Fault 23
+  unfolding contentsLine
+  line-malformed e = ap (contentsLineOf text earlier at due) e
+
+  module _ {size v next : ℕ} (e : headingAt text at ≡ Entry size v next) where
+    line-entry : contentsLine text earlier at due ≡ contentsLineOf text earlier at due (Entry size v next)
+    unfolding contentsLine
+    line-entry = ap (contentsLineOf text earlier at due) e
+
+    -- 24: not the number due
+    pub line-wrong : (v ≡ due → ⊥) → contentsLine text earlier at due ≡ Fault 24
+    line-wrong h = line-entry ∙ simp (ne-eqb _ _ h)
+
+    -- 25: a twin
+    pub line-twin : v ≡ due → twinAt text earlier at size ≡ true → contentsLine text earlier at due ≡ Fault 25
+    line-twin h t = line-entry ∙ simp (eq-eqb _ _ h, t)
+
+    -- else the next line follows
+    pub line-good : v ≡ due → twinAt text earlier at size ≡ false → contentsLine text earlier at due ≡ Next next
+    line-good h t = line-entry ∙ simp (eq-eqb _ _ h, t)

@@ -1,0 +1,199 @@
+-- Replies to a text: how the lines are gone through step by step, and what an accepting reply says of its count and its text.
+-- Assumes nothing.
+use Prim.Native.Nat.{ℕ, zero, suc, _+_, _-_, _*_, _≤_, _<_}
+use mathlib.Core.Path.{_≡_, sym, ap, _∙_, subst}
+use mathlib.Core.Bool.{Bool, cond, _&&_}
+use mathlib.Core.List.{List, [], _∷_, _++_}
+use native.Mathlib.Omega.{arith}
+use native.Mathlib.Numerals.{add-one}
+use lib.ListN.{length, take, drop, set}
+use lib.Seq.{length-take-le, take-suc-set}
+use lib.Dec.{ltb, leb, eqb}
+use borrow.Author.Tests.{leb-true, le-leb, lt-leb, lt-ltb, le-ltb, ltb-false, eq-eqb, ne-eqb}
+use Rattle.book.specs.Number.{numberAt}
+use Rattle.book.specs.Contents.{contentsLine}
+use Rattle.book.specs.Body.{bodyFrom}
+use Rattle.book.specs.Book.{refusedOf, acceptedOf, lineThen, bodiesFrom, contentsFrom, countThen, textReply, replyToBook, entriesOf, listBy, listAfter}
+use Rattle.book.specs.declared.text.Field.{Field}
+use Rattle.book.specs.declared.text.Field.the-variants.{Value, NoValue}
+use Rattle.book.specs.declared.lines.Line.{Line}
+use Rattle.book.specs.declared.lines.Line.the-variants.{Next, Fault}
+use Rattle.book.specs.declared.BookReply.{BookReply}
+use Rattle.book.proofs.Places.{and-right, cond-case}
+
+module _ (text : List ℕ) (n i at : ℕ) where
+  bodies-turn : i < n → bodiesFrom (n - i) text n i at ≡ lineThen (bodyFrom 8 text at) (n + i + 2) (bodiesFrom (n - (i + 1)) text n (i + 1))
+  unfolding bodiesFrom
+  bodies-turn h =
+      let k : n - i ≡ suc (n - (i + 1)) = omega arith in
+      ap (λ (m : ℕ). bodiesFrom m text n i at) k
+
+  -- one body
+  pub bodies-more : {p : ℕ} → i < n → bodyFrom 8 text at ≡ Next p → bodiesFrom (n - i) text n i at ≡ bodiesFrom (n - (i + 1)) text n (i + 1) p
+  bodies-more h e = bodies-turn h ∙ ap (λ (l : Line). lineThen l (n + i + 2) (bodiesFrom (n - (i + 1)) text n (i + 1))) e
+
+  -- one at fault
+  pub bodies-fault : {k : ℕ} → i < n → bodyFrom 8 text at ≡ Fault k → bodiesFrom (n - i) text n i at ≡ refusedOf k (n + i + 2)
+  bodies-fault h e = bodies-turn h ∙ ap (λ (l : Line). lineThen l (n + i + 2) (bodiesFrom (n - (i + 1)) text n (i + 1))) e
+
+  bodies-end : n ≤ i → bodiesFrom (n - i) text n i at ≡ cond (eqb at (length text)) (acceptedOf n) (refusedOf 27 (n + i + 2))
+  unfolding bodiesFrom
+  bodies-end h =
+      let k : n - i ≡ 0 = omega arith in
+      ap (λ (m : ℕ). bodiesFrom m text n i at) k
+
+  -- the last one ends the text
+  pub bodies-accept : n ≤ i → at ≡ length text → bodiesFrom (n - i) text n i at ≡ acceptedOf n
+  bodies-accept h e = bodies-end h ∙ ap (λ (b : Bool). cond b (acceptedOf n) (refusedOf 27 (n + i + 2))) (eq-eqb _ _ e)
+
+  -- 27: it does not
+  pub bodies-tail : i ≤ n → n ≤ i → (at ≡ length text → ⊥) → bodiesFrom (n - i) text n i at ≡ refusedOf 27 (n + n + 2)
+  bodies-tail g h e =
+      let k : n + i + 2 ≡ n + n + 2 = omega arith in
+      bodies-end h ∙ ap (λ (b : Bool). cond b (acceptedOf n) (refusedOf 27 (n + i + 2))) (ne-eqb _ _ e) ∙ ap (refusedOf 27) k
+
+-- the names of the contents lines before stand at the first i of the places that are kept
+module _ (text : List ℕ) (n i : ℕ) (places : List ℕ) (at : ℕ) where
+  -- after the last contents line come the bodies
+  pub contents-end : n ≤ i → contentsFrom (n - i) text n (take i places) at ≡ bodiesFrom n text n 0 at
+  unfolding contentsFrom
+  contents-end h =
+      let k : n - i ≡ 0 = omega arith in
+      ap (λ (m : ℕ). contentsFrom m text n (take i places) at) k
+
+  module _ (some : i < n) (room : i < length places) where
+    contents-turn : contentsFrom (n - i) text n (take i places) at
+        ≡ lineThen (contentsLine text (take i places) at (n + i + 2)) (i + 2) (contentsFrom (n - (i + 1)) text n (take (i + 1) (set places i at)))
+    unfolding contentsFrom
+    contents-turn =
+        let k : n - i ≡ suc (n - (i + 1)) = omega arith in
+        let kept : take (i + 1) (set places i at) ≡ take i places ++ (at ∷ []) = rw (add-one i) (take-suc-set places i at room) in
+        ap (λ (m : ℕ). contentsFrom m text n (take i places) at) k
+        ∙ ap (λ (m : ℕ). lineThen (contentsLine text (take i places) at (n + m + 2)) (m + 2) (contentsFrom (n - (i + 1)) text n (take i places ++ (at ∷ []))))
+        (length-take-le i places (omega arith))
+        ∙ ap (λ (l : List ℕ). lineThen (contentsLine text (take i places) at (n + i + 2)) (i + 2) (contentsFrom (n - (i + 1)) text n l)) (sym kept)
+
+    -- one contents line, whose place is kept
+    pub contents-more : {p : ℕ} → contentsLine text (take i places) at (n + i + 2) ≡ Next p
+        → contentsFrom (n - i) text n (take i places) at ≡ contentsFrom (n - (i + 1)) text n (take (i + 1) (set places i at)) p
+    contents-more e = contents-turn ∙ ap (λ (l : Line). lineThen l (i + 2) (contentsFrom (n - (i + 1)) text n (take (i + 1) (set places i at)))) e
+
+    -- one at fault
+    pub contents-fault : {k : ℕ} → contentsLine text (take i places) at (n + i + 2) ≡ Fault k
+        → contentsFrom (n - i) text n (take i places) at ≡ refusedOf k (i + 2)
+    contents-fault e = contents-turn ∙ ap (λ (l : Line). lineThen l (i + 2) (contentsFrom (n - (i + 1)) text n (take (i + 1) (set places i at)))) e
+
+module _ (text : List ℕ) where
+  -- 21: no bytes
+  pub text-empty : length text ≡ 0 → textReply text ≡ refusedOf 21 0
+  unfolding textReply
+  text-empty h = simp (eq-eqb _ _ h)
+
+  module _ (some : length text ≡ 0 → ⊥) where
+    -- 21: too many bytes
+    pub text-long : 8192 < length text → textReply text ≡ refusedOf 21 0
+    unfolding textReply
+    text-long h = simp (ne-eqb _ _ some, lt-ltb _ _ h)
+
+    module _ (short : length text ≤ 8192) where
+      text-count : textReply text ≡ countThen text (numberAt text 0 10)
+      unfolding textReply
+      text-count = simp (ne-eqb _ _ some, le-ltb _ _ short)
+
+      -- 22: a malformed count
+      pub text-malformed : numberAt text 0 10 ≡ NoValue → textReply text ≡ refusedOf 22 1
+      text-malformed e = text-count ∙ ap (countThen text) e
+
+      module _ {n next : ℕ} (e : numberAt text 0 10 ≡ Value n next) where
+        -- 22: a count below 1
+        pub text-low : n < 1 → textReply text ≡ refusedOf 22 1
+        text-low h = text-count ∙ ap (countThen text) e ∙ simp (lt-leb _ _ h)
+
+        -- 22: a count above 64
+        pub text-high : 1 ≤ n → 64 < n → textReply text ≡ refusedOf 22 1
+        text-high l h = text-count ∙ ap (countThen text) e ∙ simp (le-leb _ _ l, lt-leb _ _ h)
+
+        -- else the contents follow
+        pub text-good : 1 ≤ n → n ≤ 64 → textReply text ≡ contentsFrom n text n [] next
+        text-good l h = text-count ∙ ap (countThen text) e ∙ simp (le-leb _ _ l, le-leb _ _ h)
+
+-- a reply's count is at most m
+abbrev CountIn : ℕ → BookReply → Type 0
+CountIn m r = r .count ≤ m
+
+line-count : (m : ℕ) (l : Line) (k : ℕ) (go : ℕ → BookReply) → ((p : ℕ) → CountIn m (go p)) → CountIn m (lineThen l k go)
+line-count m (Next p) k go h = h p
+line-count m (Fault f) k go h = omega arith
+
+bodies-count : (k : ℕ) (text : List ℕ) (n i at : ℕ) → CountIn n (bodiesFrom k text n i at)
+unfolding bodiesFrom
+bodies-count zero text n i at = cond-case (CountIn n) (eqb at (length text)) _ _ (λ t. omega arith) (λ t. omega arith)
+bodies-count (suc k) text n i at =
+    line-count n (bodyFrom 8 text at) (n + i + 2) (bodiesFrom k text n (i + 1)) (λ p. bodies-count k text n (i + 1) p)
+
+contents-count : (k : ℕ) (text : List ℕ) (n : ℕ) (earlier : List ℕ) (at : ℕ) → CountIn n (contentsFrom k text n earlier at)
+unfolding contentsFrom
+contents-count zero text n earlier at = bodies-count n text n 0 at
+contents-count (suc k) text n earlier at =
+    line-count n (contentsLine text earlier at (n + length earlier + 2)) (length earlier + 2) (contentsFrom k text n (earlier ++ (at ∷ [])))
+    (λ p. contents-count k text n (earlier ++ (at ∷ [])) p)
+
+count-then : (text : List ℕ) (f : Field) → CountIn 64 (countThen text f)
+count-then text NoValue = omega arith
+count-then text (Value n next) =
+    cond-case (CountIn 64) (leb 1 n && leb n 64) _ _
+    (λ t. omega (arith, contents-count n text n [] next, leb-true n 64 (and-right (leb 1 n) (leb n 64) t)))
+    (λ t. omega arith)
+
+-- the count of a reply is at most 64, and an accepted text has at most 8192 bytes
+abbrev Within : List ℕ → BookReply → Type 0
+Within text r = (r .count ≤ 64) × (r .number ≡ 0 → length text ≤ 8192)
+
+text-within : (text : List ℕ) → Within text (textReply text)
+unfolding textReply
+text-within text =
+    cond-case (Within text) (eqb (length text) 0) _ _
+    (λ t. (omega arith, λ z. absurd (omega arith)))
+    (λ t. cond-case (Within text) (ltb 8192 (length text)) _ _
+    (λ u. (omega arith, λ z. absurd (omega arith)))
+    (λ u. (count-then text (numberAt text 0 10), λ z. ltb-false _ _ u)))
+
+-- an accepted text has at most 64 curves and at most 8192 bytes
+pub accepted-of : (text : List ℕ) (r : BookReply) → r ≡ textReply text → r .number ≡ 0 → (r .count ≤ 64) × (length text ≤ 8192)
+accepted-of text r e z = let w = subst (Within text) (sym e) (text-within text) in (w .0, w .1 z)
+
+module _ (text : List ℕ) where
+  -- 28: a list that is too short
+  pub reply-short : (room : ℕ) → room < 640 → replyToBook text room ≡ refusedOf 28 0
+  unfolding replyToBook
+  reply-short room h = simp (lt-ltb _ _ h)
+
+  -- else the text is answered
+  pub reply-text : (room : ℕ) → 640 ≤ room → replyToBook text room ≡ textReply text
+  unfolding replyToBook
+  reply-text room h = simp (le-ltb _ _ h)
+
+  -- a reply's count is at most 64
+  pub book-count : (room : ℕ) (r : BookReply) → r ≡ replyToBook text room → r .count ≤ 64
+  unfolding replyToBook
+  book-count room r e =
+      subst (CountIn 64) (sym e) (cond-case (CountIn 64) (ltb room 640) _ _ (λ t. omega arith) (λ t. text-within text .0))
+
+module _ (text list : List ℕ) where
+  -- a list that is too short is untouched
+  pub list-short : length list < 640 → listAfter text list ≡ list
+  unfolding listAfter
+  list-short h = ap (λ (r : BookReply). listBy r text list) (reply-short text (length list) h)
+
+  module _ (r : BookReply) (e : r ≡ textReply text) (long : 640 ≤ length list) where
+    list-by : listAfter text list ≡ listBy r text list
+    unfolding listAfter
+    list-by = ap (λ (q : BookReply). listBy q text list) (reply-text text (length list) long ∙ sym e)
+
+    -- a refused book leaves the list untouched
+    pub list-refused : (r .number ≡ 0 → ⊥) → listAfter text list ≡ list
+    list-refused z = list-by ∙ simp (ne-eqb _ _ z)
+
+    -- an accepted one fills it
+    pub list-filled : r .number ≡ 0 → listAfter text list ≡ entriesOf text (r .count) ++ drop (10 * r .count) list
+    list-filled z = list-by ∙ simp (eq-eqb _ _ z)

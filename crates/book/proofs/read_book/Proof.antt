@@ -1,0 +1,69 @@
+-- `book::read_book` meets its contract.
+-- Assumes nothing.
+use Prim.Native.Nat.{_≤_}
+use mathlib.Core.Path.{_≡_, sym, _∙_}
+use lib.ListN.{length}
+use borrow.Author.Needs.{needs}
+use Rattle.book.proofs.Replies.{accepted-of, reply-short, reply-text, list-short, list-refused, list-filled}
+use Rattle.book.proofs.read_book.Statement.{statement}
+use Rattle.book.proofs.read_book.Tie as tie
+
+-- past the first test the list is long enough
+long : (c : tie.Else1) → 640 ≤ length (c .before .before .before .args .list .now)
+long c = c .if1 .left
+
+-- past the second the text is accepted
+accepted : (c : tie.Else2) → c .before .text-reply .result .number ≡ 0
+accepted c = c .if2 .left
+
+refused-requires : tie.Need-refused-requires
+refused-requires c κs = search needs
+
+returns : tie.Need-returns
+returns c =
+    let a = c .before .before .before .before .args in
+    let h = c .before .if1 .taken in
+    (c .refused .ensures ∙ sym (reply-short (a .text .now) _ h), sym (list-short (a .text .now) (a .list .now) h))
+
+text-reply-requires : tie.Need-text-reply-requires
+text-reply-requires c κs = search needs
+
+returns-2 : tie.Need-returns-2
+returns-2 c =
+    let a = c .before .before .before .before .before .args in
+    let h = long (c .before .before) in
+    let r = c .before .text-reply in (
+      r .ensures ∙ sym (reply-text (a .text .now) _ h),
+      sym (list-refused (a .text .now) (a .list .now) (r .result) (r .ensures) h (c .if2 .taken)),
+    )
+
+store-curves-requires : tie.Need-store-curves-requires
+store-curves-requires c κs =
+    let r = c .before .before .text-reply in
+    let k = accepted-of (c .before .before .before .before .before .before .args .text .now) (r .result) (r .ensures) (accepted (c .before)) in
+    (k .1, (k .0, long (c .before .before .before)))
+
+same-length : tie.Need-same-length
+same-length c = search needs
+
+returns-3 : tie.Need-returns-3
+returns-3 c =
+    let a = c .before .before .before .before .before .before .before .before .before .args in
+    let h = long (c .before .before .before .before .before .before) in
+    let none = accepted (c .before .before .before .before) in
+    let r = c .before .before .before .before .before .text-reply in (
+      r .ensures ∙ sym (reply-text (a .text .now) _ h),
+      c .before .before .store-curves .ensures ∙ sym (list-filled (a .text .now) (a .list .now) (r .result) (r .ensures) h none),
+    )
+
+pub read-book-spec : {M : Type 1} → statement M
+read-book-spec =
+    tie.close
+    (tie.spec
+    refused-requires
+    returns
+    text-reply-requires
+    returns-2
+    store-curves-requires
+    same-length
+    returns-3)

@@ -1,0 +1,104 @@
+-- `book::reply::text_reply` meets its contract.
+-- Assumes nothing.
+use Prim.Native.Nat.{_≤_}
+use mathlib.Core.Path.{sym, _∙_}
+use lib.ListN.{length}
+use borrow.Author.Needs.{needs}
+use Rattle.book.proofs.Places.{field-next}
+use Rattle.book.proofs.Replies.{text-empty, text-long, text-malformed, text-low, text-high, text-good}
+use Rattle.book.proofs.reply.text_reply.Statement.{statement}
+use Rattle.book.proofs.reply.text_reply.Tie as tie
+
+-- past the first two tests the text is not too long
+short : (c : tie.Else2) → length (c .before .before .before .args .text .now) ≤ 8192
+short c = c .if2 .left
+
+refused-requires : tie.Need-refused-requires
+refused-requires c κs = search needs
+
+returns : tie.Need-returns
+returns c = c .refused .ensures ∙ sym (text-empty (c .before .before .before .args .text .now) (c .before .if1 .taken))
+
+refused-requires-2 : tie.Need-refused-requires-2
+refused-requires-2 c κs = search needs
+
+returns-2 : tie.Need-returns-2
+returns-2 c =
+    c .refused2 .ensures
+    ∙ sym (text-long (c .before .before .before .before .args .text .now) (c .before .before .if1 .left) (c .before .if2 .taken))
+
+read-number-requires : tie.Need-read-number-requires
+read-number-requires c κs = search needs
+
+enum-told : tie.Need-enum-told
+enum-told c = search needs
+
+refused-requires-3 : tie.Need-refused-requires-3
+refused-requires-3 c κs = search needs
+
+enum-known-f : tie.Need-enum-known-f
+enum-known-f c = search needs
+
+refused-requires-4 : tie.Need-refused-requires-4
+refused-requires-4 c κs = search needs
+
+returns-3 : tie.Need-returns-3
+returns-3 c =
+    let s = c .before .before .before .before .before .before .before .before .before .args .text .now in
+    let some = c .before .before .before .before .before .before .before .if1 .left in
+    let e = sym (c .before .before .before .before .before .read-number .ensures) ∙ c .before .before .before .f .given .1 in
+    let few = short (c .before .before .before .before .before .before) in
+    c .refused4 .ensures ∙ sym (text-low s some few e (c .before .if3 .taken))
+
+refused-requires-5 : tie.Need-refused-requires-5
+refused-requires-5 c κs = search needs
+
+returns-4 : tie.Need-returns-4
+returns-4 c =
+    let s = c .before .before .before .before .before .before .before .before .before .before .args .text .now in
+    let some = c .before .before .before .before .before .before .before .before .if1 .left in
+    let e = sym (c .before .before .before .before .before .before .read-number .ensures) ∙ c .before .before .before .before .f .given .1 in
+    let few = short (c .before .before .before .before .before .before .before) in
+    c .refused5 .ensures ∙ sym (text-high s some few e (c .before .before .if3 .left) (c .before .if4 .taken))
+
+contents-requires : tie.Need-contents-requires
+contents-requires c κs =
+    let s = c .before .before .before .before .before .before .before .before .before .args .text .now in
+    let e = sym (c .before .before .before .before .before .read-number .ensures) ∙ c .before .before .before .f .given .1 in
+    (search needs, (search needs, field-next s 10 (search needs) 0 e))
+
+returns-5 : tie.Need-returns-5
+returns-5 c =
+    let s = c .before .before .before .before .before .before .before .args .text .now in
+    let some = c .before .before .before .before .before .if1 .left in
+    let e = sym (c .before .before .before .read-number .ensures) ∙ c .before .enum-told .given .1 in
+    let few = short (c .before .before .before .before) in
+    c .refused3 .ensures ∙ sym (text-malformed s some few e)
+
+returns-6 : tie.Need-returns-6
+returns-6 c =
+    let s = c .before .before .before .before .before .before .before .before .before .before .args .text .now in
+    let some = c .before .before .before .before .before .before .before .before .if1 .left in
+    let e = sym (c .before .before .before .before .before .before .read-number .ensures) ∙ c .before .before .before .before .f .given .1 in
+    let few = short (c .before .before .before .before .before .before .before) in
+    c .contents .ensures ∙ sym (text-good s some few e (c .before .before .if3 .left) (c .before .if4 .left))
+
+pub text-reply-spec : {M : Type 1} → statement M
+text-reply-spec =
+    tie.close
+    (tie.spec
+    refused-requires
+    returns
+    refused-requires-2
+    returns-2
+    read-number-requires
+    enum-told
+    refused-requires-3
+    enum-known-f
+    refused-requires-4
+    returns-3
+    refused-requires-5
+    returns-4
+    contents-requires
+    returns-5
+    returns-6)

@@ -1,0 +1,11 @@
+pub mod Number
+pub mod Name
+pub mod Contents
+pub mod Body
+pub mod Book
+pub mod Printed
+pub mod LineMeaning
+pub mod Meaning
+pub mod Reasons
+pub mod Cards
+pub mod RampBook

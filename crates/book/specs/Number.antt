@@ -1,0 +1,47 @@
+-- Document 01, "The book of cards": numbers, each at a place of the text. A place counts bytes from 0.
+-- Numbers are decimal, 1 to 7 digits, no leading zero but in 0 itself.
+-- Assumes nothing.
+use Prim.Native.Nat.{ℕ, zero, suc, _+_, _-_, _*_}
+use mathlib.Core.List.{List}
+use mathlib.Core.Bool.{cond}
+use lib.ListN.{getD}
+use lib.Dec.{ltb, eqb}
+use Rattle.book.specs.declared.text.Field.{Field}
+use Rattle.book.specs.declared.text.Field.the-variants.{Value, NoValue}
+
+-- the byte at a place; past the end 0, which stands in no well-formed line
+abbrev pub byteAt : List ℕ → ℕ → ℕ
+byteAt text at = getD text at 0
+
+-- the value of a decimal digit (bytes 48 to 57), and 10 for any other byte
+abbrev pub digitOf : ℕ → ℕ
+digitOf b = cond (ltb b 48) 10 (cond (ltb 57 b) 10 (b - 48))
+
+unfoldable pub digitAt : List ℕ → ℕ → ℕ
+digitAt text at = digitOf (byteAt text at)
+
+-- the value v, if the byte `end` stands at this place, and the place after it
+unfoldable pub endedAt : List ℕ → ℕ → ℕ → ℕ → Field
+endedAt text at v end = cond (eqb (byteAt text at) end) (Value v (at + 1)) NoValue
+
+-- at most k digits more after the value v, and then the byte `end`
+unfoldable pub digitsAt : ℕ → List ℕ → ℕ → ℕ → ℕ → Field
+digitsAt zero text at v end = endedAt text at v end
+digitsAt (suc k) text at v end =
+    cond (ltb (digitAt text at) 10) (digitsAt k text (at + 1) (v * 10 + digitAt text at) end) (endedAt text at v end)
+
+-- a number and the byte `end`: 0 itself, or one to seven digits of which the first is not 0
+unfoldable pub numberAt : List ℕ → ℕ → ℕ → Field
+numberAt text at end =
+    cond (ltb (digitAt text at) 10)
+    (cond (eqb (digitAt text at) 0) (endedAt text (at + 1) 0 end) (digitsAt 6 text (at + 1) (digitAt text at) end))
+    NoValue
+
+-- the value of a number, and the place after it; of no number 0 and the same place
+abbrev pub fieldValue : Field → ℕ
+fieldValue (Value v next) = v
+fieldValue NoValue = 0
+
+abbrev pub fieldNext : ℕ → Field → ℕ
+fieldNext at (Value v next) = next
+fieldNext at NoValue = at

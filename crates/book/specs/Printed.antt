@@ -1,0 +1,96 @@
+-- Document 01, "The book of cards": the text of a book, from the names and numbers of its curves.
+-- Assumes nothing.
+use Prim.Native.Nat.{ℕ, zero, suc, _+_, _/_, _%_, _≤_, _<_}
+use mathlib.Core.Path.{_≡_}
+use mathlib.Core.List.{List, [], _∷_, _++_}
+use mathlib.Core.Bool.{true, cond}
+use lib.ListN.{length}
+use lib.Dec.{ltb}
+use Rattle.book.specs.Name.{isNameByte}
+use Rattle.book.specs.Body.{cardNumbers, endOf}
+use Rattle.book.specs.Book.{mostCurves}
+
+-- the text of a number: its decimal digits, at most k of them
+unfoldable pub digitsText : ℕ → ℕ → List ℕ
+digitsText zero v = []
+digitsText (suc k) v = cond (ltb v 10) ((48 + v) ∷ []) (digitsText k (v / 10) ++ ((48 + v % 10) ∷ []))
+
+-- a number of 1 to 7 digits and the byte that ends it
+abbrev pub numberText : ℕ → ℕ → List ℕ
+numberText v end = digitsText 7 v ++ (end ∷ [])
+
+-- a contents line: name, one blank, the line of its body
+abbrev pub contentsText : List ℕ → ℕ → List ℕ
+contentsText name line = name ++ (32 ∷ numberText line 10)
+
+-- a body: the numbers with one blank between
+unfoldable pub bodyText : List ℕ → List ℕ
+bodyText [] = []
+bodyText (v ∷ numbers) = numberText v (endOf (length numbers)) ++ bodyText numbers
+
+-- contents lines in order; the first of them names this line, the next the next one
+unfoldable pub contentsTexts : ℕ → List (List ℕ) → List ℕ
+contentsTexts line [] = []
+contentsTexts line (name ∷ names) = contentsText name line ++ contentsTexts (line + 1) names
+
+-- bodies in order
+unfoldable pub bodyTexts : List (List ℕ) → List ℕ
+bodyTexts [] = []
+bodyTexts (numbers ∷ bodies) = bodyText numbers ++ bodyTexts bodies
+
+-- the first lines of a book of n curves: the count, some contents lines and some bodies
+abbrev pub linesText : ℕ → List (List ℕ) → List (List ℕ) → List ℕ
+linesText n names bodies = numberText n 10 ++ (contentsTexts (n + 2) names ++ bodyTexts bodies)
+
+-- a curve of a book: the bytes of its name, and its eight numbers
+pub record Curve : Type 0 where
+  pub name : List ℕ
+  pub numbers : List ℕ
+
+unfoldable pub namesOf : List Curve → List (List ℕ)
+namesOf [] = []
+namesOf (curve ∷ curves) = curve .name ∷ namesOf curves
+
+unfoldable pub bodiesOf : List Curve → List (List ℕ)
+bodiesOf [] = []
+bodiesOf (curve ∷ curves) = curve .numbers ∷ bodiesOf curves
+
+-- the whole book: n is the count of curves
+unfoldable pub bookText : List Curve → List ℕ
+bookText curves = linesText (length curves) (namesOf curves) (bodiesOf curves)
+
+-- something holds of each of a list
+unfoldable pub Each : {A : Type 0} → (A → Type 0) → List A → Type 0
+Each P [] = Unit
+Each P (x ∷ xs) = P x × Each P xs
+
+-- a name: 1 to 8 capitals or digits
+pub record IsName (name : List ℕ) : Type 0 where
+  pub some : 1 ≤ length name
+  pub short : length name ≤ 8
+  pub bytes : Each (λ b. isNameByte b ≡ true) name
+
+-- a number: 1 to 7 digits
+abbrev pub IsNumber : ℕ → Type 0
+IsNumber v = v < 10000000
+
+-- a body: eight numbers
+pub record IsBody (numbers : List ℕ) : Type 0 where
+  pub eight : length numbers ≡ cardNumbers
+  pub small : Each IsNumber numbers
+
+-- no name stands in an earlier contents line
+abbrev pub Differs : List ℕ → List ℕ → Type 0
+Differs name other = name ≡ other → ⊥
+
+unfoldable pub NoTwins : List (List ℕ) → Type 0
+NoTwins [] = Unit
+NoTwins (name ∷ names) = Each (Differs name) names × NoTwins names
+
+-- the curves of a book: 1 to 64
+pub record IsBook (curves : List Curve) : Type 0 where
+  pub some : 1 ≤ length curves
+  pub few : length curves ≤ mostCurves
+  pub names : Each IsName (namesOf curves)
+  pub bodies : Each IsBody (bodiesOf curves)
+  pub twins : NoTwins (namesOf curves)

@@ -1,0 +1,39 @@
+// Reads a book of cards: a count line, a contents line for each curve, and a body of eight numbers for each.
+mod lines;
+mod reply;
+mod store;
+mod text;
+
+use crate::reply::refused;
+use crate::reply::text_reply;
+use crate::store::LEAST_LIST;
+use crate::store::store_curves;
+ghost use mathlib.Core.Path.{_≡_};
+ghost use Prim.Native.Nat.{_<_};
+ghost use lib.ListN.{length};
+ghost use Rattle.book.specs.Book.{replyToBook, listAfter};
+
+// What a book is answered: number 0 and the count of curves, or the refusal and the line at fault, 0 where it is no line's.
+pub struct BookReply {
+    pub number: u32,
+    pub count: u32,
+    pub line: u32,
+}
+
+// Reads a book of cards into the list, ten numbers a curve; a refused book leaves the list untouched.
+pub fn read_book(text: &[u8], list: &mut [u32]) -> BookReply
+    ensures { λ r. ⌜ r ≡ replyToBook (now (text .entry)) (length (now (list .entry))) ⌝ }
+    ensures { λ _. ⌜ now (list .exit) ≡ listAfter (now (text .entry)) (now (list .entry)) ⌝ }
+{
+    if list.len() < LEAST_LIST {
+        return refused(28, 0);
+    }
+    let r = text_reply(text);
+    let number = r.number;
+    if number != 0 {
+        return r;
+    }
+    let n = r.count;
+    store_curves(text, n, list);
+    r
+}

@@ -7,18 +7,20 @@ use runoff::Reply;
 // The table has room for 301 rows of seven numbers, the most that a card can have, and for some more that must stay as they are.
 pub(crate) const ROOM: usize = 2128;
 
-// What stands at a place before the call: a number for each place that no row holds.
-fn mark(place: usize) -> i32
+// What stands at a place before a call: a number for each place that no row and no curve of a book holds.
+pub(crate) fn mark(place: usize) -> u32
     requires { ⌜ place < 2128 ⌝ }
+    ensures { λ r. ⌜ r < 1000002128 ⌝ }
 {
     let number = 1000000000 + place;
-    number as i32
+    number as u32
 }
 
 pub(crate) fn fill_with_marks(numbers: &mut [i32; ROOM]) {
     let mut place: usize = 0;
     while place < ROOM {
-        numbers[place] = mark(place);
+        let number = mark(place) as i32;
+        numbers[place] = number;
         place += 1;
     }
 }
@@ -36,7 +38,7 @@ pub(crate) fn untouched_from(numbers: &[i32; ROOM]) -> u32 {
     let mut place: usize = ROOM;
     while place > 0 {
         let last = place - 1;
-        if numbers[last] != mark(last) {
+        if numbers[last] != mark(last) as i32 {
             return place as u32;
         }
         place = last;

@@ -1,5 +1,6 @@
 // What is counted of a group of figures.
 pub(crate) struct Tally {
+    pub(crate) books: u32,
     pub(crate) cards: u32,
     pub(crate) rows: u32,
     pub(crate) compared: u32,
@@ -14,11 +15,17 @@ pub(crate) fn one_more(count: u32) -> u32 {
 impl Tally {
     pub(crate) fn new() -> Self {
         Tally {
+            books: 0,
             cards: 0,
             rows: 0,
             compared: 0,
             failed: 0,
         }
+    }
+
+    pub(crate) fn with_book(mut self) -> Self {
+        self.books = one_more(self.books);
+        self
     }
 
     pub(crate) fn with_card(mut self) -> Self {
@@ -43,10 +50,12 @@ impl Tally {
     }
 
     pub(crate) fn print(self) {
+        let books = self.books;
         let cards = self.cards;
         let rows = self.rows;
         let compared = self.compared;
         let failed = self.failed;
+        print_count(books, b" books, ");
         print_count(cards, b" cards, ");
         print_count(rows, b" rows, ");
         print_count(compared, b" figures compared, ");

@@ -2,6 +2,9 @@
 ghost use Prim.Native.Nat.{_≤_};
 ghost use lib.ListN.{length};
 
+// The most figures that a line can have.
+pub(crate) const MOST_FIGURES: usize = 11;
+
 // A figure of a line. Where the paper prints none the line has an `x`, and nothing is compared.
 pub(crate) struct Figure {
     pub(crate) printed: bool,
@@ -12,20 +15,25 @@ pub(crate) struct Figure {
 // The figures of a line. A line that is not understood has none.
 pub(crate) struct Line {
     pub(crate) count: usize,
-    pub(crate) figures: [Figure; 8],
+    pub(crate) figures: [Figure; MOST_FIGURES],
 }
 
 // A figure that was read, and where it ends.
-struct Read {
-    understood: bool,
-    figure: Figure,
-    end: usize,
+pub(crate) struct Read {
+    pub(crate) understood: bool,
+    pub(crate) figure: Figure,
+    pub(crate) end: usize,
 }
 
 // The size of a number, or 4294967296 for all that are larger than a card can hold, and where its digits end.
-struct Digits {
-    size: u64,
-    end: usize,
+pub(crate) struct Digits {
+    pub(crate) size: u64,
+    pub(crate) end: usize,
+}
+
+// Whether a figure is this number.
+pub(crate) fn is_number(figure: Figure, number: u32) -> bool {
+    !figure.negative && figure.size == number
 }
 
 // A byte of the text, and 0 past its end.
@@ -81,7 +89,7 @@ fn digit_of(byte: u8) -> u64
 }
 
 // The digits that stand from `from` on.
-fn read_digits(line: &[u8], from: usize) -> Digits
+pub(crate) fn read_digits(line: &[u8], from: usize) -> Digits
     requires { ⌜ from ≤ length (now line) ⌝ }
     ensures { λ r. ⌜ (from ≤ r .end) × ((r .end ≤ length (now (line .entry))) × (r .size ≤ 4294967296)) ⌝ }
 {
@@ -107,7 +115,7 @@ fn not_printed() -> Figure {
 }
 
 // The number whose sign, if it has one, ends at `from`. At least one digit is due, and no number is larger than a card can hold.
-fn read_number(line: &[u8], from: usize, negative: bool) -> Read
+pub(crate) fn read_number(line: &[u8], from: usize, negative: bool) -> Read
     requires { ⌜ from ≤ length (now line) ⌝ }
     ensures { λ r. ⌜ (from ≤ r .end) × (r .end ≤ length (now (line .entry))) ⌝ }
 {
@@ -156,17 +164,17 @@ fn read_figure(line: &[u8], from: usize) -> Read
 fn line_not_understood() -> Line {
     Line {
         count: 0,
-        figures: [not_printed(); 8],
+        figures: [not_printed(); MOST_FIGURES],
     }
 }
 
-// The figures that follow a line's letter, at most eight, with one blank before each.
+// The figures that follow a line's letter, at most eleven, with one blank before each.
 pub(crate) fn read_line(line: &[u8]) -> Line {
-    let mut figures = [not_printed(); 8];
+    let mut figures = [not_printed(); MOST_FIGURES];
     let mut count: usize = 0;
     let mut at: usize = 1;
     while at < line.len() {
-        if count == 8 {
+        if count == MOST_FIGURES {
             return line_not_understood();
         }
         if line[at] != b' ' {

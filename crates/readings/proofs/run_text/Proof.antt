@@ -7,10 +7,10 @@ use Rattle.readings.proofs.run_text.Statement.{statement}
 use Rattle.readings.proofs.run_text.Tie as tie
 
 abbrev Inv-loop : tie.InvT-loop
-Inv-loop text numbers₀ run₀ from₀ numbers run from = from ≤ length text
+Inv-loop text numbers₀ book₀ list₀ run₀ from₀ numbers book list run from = from ≤ length text
 
 abbrev μ-loop : tie.MeasureT-loop
-μ-loop text numbers₀ run₀ from₀ numbers run from = length text - from
+μ-loop text numbers₀ book₀ list₀ run₀ from₀ numbers book list run from = length text - from
 
 no-group-requires : tie.Need-no-group-requires Inv-loop μ-loop
 no-group-requires c κs = search needs

@@ -1,4 +1,4 @@
--- `readings::run::all_whole` meets its contract. The loop stays within the eight figures of a line.
+-- `readings::run::all_whole` meets its contract. The loop stays within the eight figures of a card.
 -- Assumes nothing.
 use borrow.Author.Needs.{needs}
 use Prim.Native.Nat.{_≤_, _-_}

@@ -17,11 +17,14 @@ loop-holds c = search needs
 mark-requires : tie.Need-mark-requires Inv-loop μ-loop
 mark-requires c κs = search needs
 
-mul-t5 : tie.Need-mul-t5 Inv-loop μ-loop
-mul-t5 c = search needs
+cast-number : tie.Need-cast-number Inv-loop μ-loop
+cast-number c = search needs
 
-element-set-from-numbers : tie.Need-element-set-from-numbers Inv-loop μ-loop
-element-set-from-numbers c = search needs
+mul-number : tie.Need-mul-number Inv-loop μ-loop
+mul-number c = search needs
+
+element-set-from-number : tie.Need-element-set-from-number Inv-loop μ-loop
+element-set-from-number c = search needs
 
 add-place : tie.Need-add-place Inv-loop μ-loop
 add-place c = search needs
@@ -43,8 +46,9 @@ fill-with-marks-spec =
     μ-loop
     loop-holds
     mark-requires
-    mul-t5
-    element-set-from-numbers
+    cast-number
+    mul-number
+    element-set-from-number
     add-place
     loop-less
     loop-again

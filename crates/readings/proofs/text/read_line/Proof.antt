@@ -1,4 +1,4 @@
--- `readings::text::read_line` meets its contract. At most eight figures are stored.
+-- `readings::text::read_line` meets its contract. At most eleven figures are stored.
 -- Assumes nothing.
 use borrow.Author.Needs.{needs}
 use Prim.Native.Nat.{_≤_, _-_}
@@ -7,7 +7,7 @@ use Rattle.readings.proofs.text.read_line.Statement.{statement}
 use Rattle.readings.proofs.text.read_line.Tie as tie
 
 abbrev Inv-loop : tie.InvT-loop
-Inv-loop line figures₀ count₀ at₀ figures count at = count ≤ 8
+Inv-loop line figures₀ count₀ at₀ figures count at = count ≤ 11
 
 abbrev μ-loop : tie.MeasureT-loop
 μ-loop line figures₀ count₀ at₀ figures count at = length line - at

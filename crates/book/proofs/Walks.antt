@@ -34,7 +34,7 @@ abbrev MeantBy : List ℕ → BookReply → Type 0
 MeantBy text reply = SaysOfLines text (reply .line) (reply .number)
 
 -- what holds after a line that was read, and of a line at fault
-line-case : (P : BookReply → Type 0) (l : Line) (line : ℕ) (go : ℕ → BookReply) → ((p : ℕ) → l ≡ Next p → P (go p))
+pub line-case : (P : BookReply → Type 0) (l : Line) (line : ℕ) (go : ℕ → BookReply) → ((p : ℕ) → l ≡ Next p → P (go p))
     → ((f : ℕ) → l ≡ Fault f → P (refusedOf f line)) → P (lineThen l line go)
 line-case P (Next p) line go f g = f p refl
 line-case P (Fault m) line go f g = g m refl

@@ -7,7 +7,7 @@ use mathlib.Core.List.{List, [], _++_}
 use mathlib.Core.Bool.{cond}
 use lib.ListN.{length}
 use lib.Dec.{eqb}
-use Rattle.book.specs.Book.{mostCurves, mostBytes, leastList, replyToBook}
+use Rattle.book.specs.Book.{mostCurves, mostBytes, leastList, replyToBook, listAfter}
 use Rattle.book.specs.LineMeaning.{Starts}
 use Rattle.book.specs.Meaning.{TextOfBook}
 use Rattle.book.specs.Printed.{Each, IsName, IsNumber, IsBody, Differs, NoTwins, numberText, contentsText, bodyText, linesText}
@@ -115,6 +115,10 @@ pub record ShortList (room line : ℕ) : Type 0 where
 abbrev pub Says : List ℕ → ℕ → ℕ → ℕ → Type 0
 Says text room line number = cond (eqb number 28) (ShortList room line) ((leastList ≤ room) × SaysOfText text line number)
 
--- THEOREM (proofs/BookReasons.antt): for every text and every list of `room` numbers, the reply's number and line say what holds
-abbrev pub ReasonsTheorem : Type 0
-ReasonsTheorem = (text : List ℕ) (room : ℕ) → Says text room ((replyToBook text room) .line) ((replyToBook text room) .number)
+-- THEOREM (proofs/BookReasons.antt): for every text and every list
+pub record ReasonsTheorem : Type 0 where
+  -- the reply's number and line say what holds
+  pub says : (text : List ℕ) (room : ℕ) → Says text room ((replyToBook text room) .line) ((replyToBook text room) .number)
+  -- a refused book gives a count of 0, and leaves the list untouched
+  pub nought : (text : List ℕ) (room : ℕ) → ((replyToBook text room) .number ≡ 0 → ⊥) → (replyToBook text room) .count ≡ 0
+  pub kept : (text list : List ℕ) → ((replyToBook text (length list)) .number ≡ 0 → ⊥) → listAfter text list ≡ list

@@ -1,7 +1,7 @@
 -- Replies to a text: how the lines are gone through step by step, and what an accepting reply says of its count and its text.
 -- Assumes nothing.
 use Prim.Native.Nat.{ℕ, zero, suc, _+_, _-_, _*_, _≤_, _<_}
-use mathlib.Core.Path.{_≡_, sym, ap, _∙_, subst}
+use mathlib.Core.Path.{_≡_, refl, sym, ap, _∙_, subst}
 use mathlib.Core.Bool.{Bool, cond, _&&_}
 use mathlib.Core.List.{List, [], _∷_, _++_}
 use native.Mathlib.Omega.{arith}
@@ -117,50 +117,61 @@ module _ (text : List ℕ) where
         pub text-good : 1 ≤ n → n ≤ 64 → textReply text ≡ contentsFrom n text n [] next
         text-good l h = text-count ∙ ap (countThen text) e ∙ simp (le-leb _ _ l, le-leb _ _ h)
 
--- a reply's count is at most m
-abbrev CountIn : ℕ → BookReply → Type 0
-CountIn m r = r .count ≤ m
+-- what holds after a line that was read, and of a line at fault
+pub line-case : (P : BookReply → Type 0) (l : Line) (line : ℕ) (go : ℕ → BookReply) → ((p : ℕ) → l ≡ Next p → P (go p))
+    → ((f : ℕ) → l ≡ Fault f → P (refusedOf f line)) → P (lineThen l line go)
+line-case P (Next p) line go f g = f p refl
+line-case P (Fault m) line go f g = g m refl
 
-line-count : (m : ℕ) (l : Line) (k : ℕ) (go : ℕ → BookReply) → ((p : ℕ) → CountIn m (go p)) → CountIn m (lineThen l k go)
-line-count m (Next p) k go h = h p
-line-count m (Fault f) k go h = omega arith
+-- what holds of every refusal, and of acceptance with at most 64 curves, holds of what the lines of a text are answered
+module _ (P : BookReply → Type 0) (refused : (number line : ℕ) → P (refusedOf number line)) where
+  bodies-hold : (k : ℕ) (text : List ℕ) (n i at : ℕ) → P (acceptedOf n) → P (bodiesFrom k text n i at)
+  unfolding bodiesFrom
+  bodies-hold zero text n i at h = cond-case P (eqb at (length text)) _ _ (λ t. h) (λ t. refused 27 (n + i + 2))
+  bodies-hold (suc k) text n i at h =
+      line-case P (bodyFrom 8 text at) (n + i + 2) _ (λ p e. bodies-hold k text n (i + 1) p h) (λ f e. refused f (n + i + 2))
 
-bodies-count : (k : ℕ) (text : List ℕ) (n i at : ℕ) → CountIn n (bodiesFrom k text n i at)
-unfolding bodiesFrom
-bodies-count zero text n i at = cond-case (CountIn n) (eqb at (length text)) _ _ (λ t. omega arith) (λ t. omega arith)
-bodies-count (suc k) text n i at =
-    line-count n (bodyFrom 8 text at) (n + i + 2) (bodiesFrom k text n (i + 1)) (λ p. bodies-count k text n (i + 1) p)
+  contents-hold : (k : ℕ) (text : List ℕ) (n : ℕ) (earlier : List ℕ) (at : ℕ) → P (acceptedOf n) → P (contentsFrom k text n earlier at)
+  unfolding contentsFrom
+  contents-hold zero text n earlier at h = bodies-hold n text n 0 at h
+  contents-hold (suc k) text n earlier at h =
+      line-case P (contentsLine text earlier at (n + length earlier + 2)) (length earlier + 2) _
+      (λ p e. contents-hold k text n (earlier ++ (at ∷ [])) p h) (λ f e. refused f (length earlier + 2))
 
-contents-count : (k : ℕ) (text : List ℕ) (n : ℕ) (earlier : List ℕ) (at : ℕ) → CountIn n (contentsFrom k text n earlier at)
-unfolding contentsFrom
-contents-count zero text n earlier at = bodies-count n text n 0 at
-contents-count (suc k) text n earlier at =
-    line-count n (contentsLine text earlier at (n + length earlier + 2)) (length earlier + 2) (contentsFrom k text n (earlier ++ (at ∷ [])))
-    (λ p. contents-count k text n (earlier ++ (at ∷ [])) p)
+  lines-hold : (text : List ℕ) (f : Field) → ((n : ℕ) → n ≤ 64 → P (acceptedOf n)) → P (countThen text f)
+  lines-hold text NoValue h = refused 22 1
+  lines-hold text (Value n next) h =
+      cond-case P (leb 1 n && leb n 64) _ _
+      (λ t. contents-hold n text n [] next (h n (leb-true n 64 (and-right (leb 1 n) (leb n 64) t))))
+      (λ t. refused 22 1)
 
-count-then : (text : List ℕ) (f : Field) → CountIn 64 (countThen text f)
-count-then text NoValue = omega arith
-count-then text (Value n next) =
-    cond-case (CountIn 64) (leb 1 n && leb n 64) _ _
-    (λ t. omega (arith, contents-count n text n [] next, leb-true n 64 (and-right (leb 1 n) (leb n 64) t)))
-    (λ t. omega arith)
+-- the count of a reply is at most 64, of a refusal 0, and an accepted text has at most 8192 bytes
+pub record Within (text : List ℕ) (r : BookReply) : Type 0 where
+  pub few : r .count ≤ 64
+  pub nought : (r .number ≡ 0 → ⊥) → r .count ≡ 0
+  pub short : r .number ≡ 0 → length text ≤ 8192
 
--- the count of a reply is at most 64, and an accepted text has at most 8192 bytes
-abbrev Within : List ℕ → BookReply → Type 0
-Within text r = (r .count ≤ 64) × (r .number ≡ 0 → length text ≤ 8192)
+refused-within : (text : List ℕ) (number line : ℕ) → (number ≡ 0 → length text ≤ 8192) → Within text (refusedOf number line)
+refused-within text number line h = record { few = omega arith; nought = λ z. refl; short = h }
 
 text-within : (text : List ℕ) → Within text (textReply text)
 unfolding textReply
 text-within text =
     cond-case (Within text) (eqb (length text) 0) _ _
-    (λ t. (omega arith, λ z. absurd (omega arith)))
+    (λ t. refused-within text 21 0 (λ z. absurd (omega arith)))
     (λ t. cond-case (Within text) (ltb 8192 (length text)) _ _
-    (λ u. (omega arith, λ z. absurd (omega arith)))
-    (λ u. (count-then text (numberAt text 0 10), λ z. ltb-false _ _ u)))
+    (λ u. refused-within text 21 0 (λ z. absurd (omega arith)))
+    (λ u. lines-hold (Within text) (λ number line. refused-within text number line (λ z. ltb-false _ _ u)) text (numberAt text 0 10)
+    (λ n few. record { few = few; nought = λ h. absurd (h refl); short = λ z. ltb-false _ _ u })))
+
+pub reply-within : (text : List ℕ) (room : ℕ) → Within text (replyToBook text room)
+unfolding replyToBook
+reply-within text room =
+    cond-case (Within text) (ltb room 640) _ _ (λ t. refused-within text 28 0 (λ z. absurd (omega arith))) (λ t. text-within text)
 
 -- an accepted text has at most 64 curves and at most 8192 bytes
 pub accepted-of : (text : List ℕ) (r : BookReply) → r ≡ textReply text → r .number ≡ 0 → (r .count ≤ 64) × (length text ≤ 8192)
-accepted-of text r e z = let w = subst (Within text) (sym e) (text-within text) in (w .0, w .1 z)
+accepted-of text r e z = let w = subst (Within text) (sym e) (text-within text) in (w .few, w .short z)
 
 module _ (text : List ℕ) where
   -- 28: a list that is too short
@@ -173,26 +184,16 @@ module _ (text : List ℕ) where
   unfolding replyToBook
   reply-text room h = simp (le-ltb _ _ h)
 
-  -- a reply's count is at most 64
-  pub book-count : (room : ℕ) (r : BookReply) → r ≡ replyToBook text room → r .count ≤ 64
-  unfolding replyToBook
-  book-count room r e =
-      subst (CountIn 64) (sym e) (cond-case (CountIn 64) (ltb room 640) _ _ (λ t. omega arith) (λ t. text-within text .0))
-
 module _ (text list : List ℕ) where
-  -- a list that is too short is untouched
-  pub list-short : length list < 640 → listAfter text list ≡ list
+  -- a refused book leaves the list untouched
+  pub list-kept : ((replyToBook text (length list)) .number ≡ 0 → ⊥) → listAfter text list ≡ list
   unfolding listAfter
-  list-short h = ap (λ (r : BookReply). listBy r text list) (reply-short text (length list) h)
+  list-kept z = simp (ne-eqb _ _ z)
 
   module _ (r : BookReply) (e : r ≡ textReply text) (long : 640 ≤ length list) where
     list-by : listAfter text list ≡ listBy r text list
     unfolding listAfter
     list-by = ap (λ (q : BookReply). listBy q text list) (reply-text text (length list) long ∙ sym e)
-
-    -- a refused book leaves the list untouched
-    pub list-refused : (r .number ≡ 0 → ⊥) → listAfter text list ≡ list
-    list-refused z = list-by ∙ simp (ne-eqb _ _ z)
 
     -- an accepted one fills it
     pub list-filled : r .number ≡ 0 → listAfter text list ≡ entriesOf text (r .count) ++ drop (10 * r .count) list

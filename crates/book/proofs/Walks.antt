@@ -24,6 +24,7 @@ use Rattle.book.specs.declared.lines.Line.{Line}
 use Rattle.book.specs.declared.lines.Line.the-variants.{Next, Fault}
 use Rattle.book.specs.declared.BookReply.{BookReply}
 use Rattle.book.proofs.Places.{cond-case}
+use Rattle.book.proofs.Replies.{line-case}
 use Rattle.book.proofs.Outcomes.{IsValue, IsEntry, IsNext}
 use Rattle.book.proofs.Standing.{starts-stands, stands-starts, name-starts, stands-in}
 use Rattle.book.proofs.Lists.{length-more, named-none, named-more, named-length}
@@ -32,12 +33,6 @@ use Rattle.book.proofs.RightLines.{right-count, right-name, right-body,
 -- what a reply says of the lines of a text
 abbrev MeantBy : List ℕ → BookReply → Type 0
 MeantBy text reply = SaysOfLines text (reply .line) (reply .number)
-
--- what holds after a line that was read, and of a line at fault
-pub line-case : (P : BookReply → Type 0) (l : Line) (line : ℕ) (go : ℕ → BookReply) → ((p : ℕ) → l ≡ Next p → P (go p))
-    → ((f : ℕ) → l ≡ Fault f → P (refusedOf f line)) → P (lineThen l line go)
-line-case P (Next p) line go f g = f p refl
-line-case P (Fault m) line go f g = g m refl
 
 -- a body's only fault is 26
 abbrev Faults26 : Line → Type 0

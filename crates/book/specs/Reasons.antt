@@ -122,3 +122,5 @@ pub record ReasonsTheorem : Type 0 where
   -- a refused book gives a count of 0, and leaves the list untouched
   pub nought : (text : List ℕ) (room : ℕ) → ((replyToBook text room) .number ≡ 0 → ⊥) → (replyToBook text room) .count ≡ 0
   pub kept : (text list : List ℕ) → ((replyToBook text (length list)) .number ≡ 0 → ⊥) → listAfter text list ≡ list
+  -- no reply counts more than 64 curves
+  pub few : (text : List ℕ) (room : ℕ) → (replyToBook text room) .count ≤ mostCurves

@@ -1,10 +1,13 @@
 -- `book::read_book` meets its contract.
 -- Assumes nothing.
 use Prim.Native.Nat.{_≤_}
-use mathlib.Core.Path.{_≡_, sym, _∙_}
+use mathlib.Core.Path.{_≡_, sym, ap, _∙_}
 use lib.ListN.{length}
+use native.Mathlib.Omega.{arith}
 use borrow.Author.Needs.{needs}
-use Rattle.book.proofs.Replies.{accepted-of, reply-short, reply-text, list-short, list-refused, list-filled}
+use Rattle.book.specs.Book.{replyToBook}
+use Rattle.book.specs.declared.BookReply.{BookReply}
+use Rattle.book.proofs.Replies.{accepted-of, reply-short, reply-text, list-kept, list-filled}
 use Rattle.book.proofs.read_book.Statement.{statement}
 use Rattle.book.proofs.read_book.Tie as tie
 
@@ -22,8 +25,9 @@ refused-requires c κs = search needs
 returns : tie.Need-returns
 returns c =
     let a = c .before .before .before .before .args in
-    let h = c .before .if1 .taken in
-    (c .refused .ensures ∙ sym (reply-short (a .text .now) _ h), sym (list-short (a .text .now) (a .list .now) h))
+    let short = reply-short (a .text .now) _ (c .before .if1 .taken) in
+    let number : (replyToBook (a .text .now) (length (a .list .now))) .number ≡ 28 = ap (λ (r : BookReply). r .number) short in
+    (c .refused .ensures ∙ sym short, sym (list-kept (a .text .now) (a .list .now) (λ z. omega arith)))
 
 text-reply-requires : tie.Need-text-reply-requires
 text-reply-requires c κs = search needs
@@ -32,10 +36,9 @@ returns-2 : tie.Need-returns-2
 returns-2 c =
     let a = c .before .before .before .before .before .args in
     let h = long (c .before .before) in
-    let r = c .before .text-reply in (
-      r .ensures ∙ sym (reply-text (a .text .now) _ h),
-      sym (list-refused (a .text .now) (a .list .now) (r .result) (r .ensures) h (c .if2 .taken)),
-    )
+    let r = c .before .text-reply in
+    let reply = r .ensures ∙ sym (reply-text (a .text .now) _ h) in
+    (reply, sym (list-kept (a .text .now) (a .list .now) (λ z. c .if2 .taken (ap (λ (q : BookReply). q .number) reply ∙ z))))
 
 store-curves-requires : tie.Need-store-curves-requires
 store-curves-requires c κs =

@@ -143,7 +143,7 @@ module _ (lines : LineTheorem) (text : List ℕ) where
   pub entries-there : (curves : List Curve) (at line end body last : ℕ) → Each IsName (namesOf curves) → Each IsBody (bodiesOf curves)
       → line + length curves ≤ 10000000 → Stands text at (contentsTexts line (namesOf curves)) end → Stands text body (bodyTexts (bodiesOf curves)) last
       → entriesFrom (length curves) text at body ≡ entries at line curves
-  unfolding Each namesOf bodiesOf contentsTexts bodyTexts entriesFrom entryAt entries
+  unfolding Each contentsTexts bodyTexts entriesFrom entryAt entries
   entries-there [] at line end body last known eights small s t = refl
   entries-there (curve ∷ curves) at line end body last known eights small s t =
       let b : IsNumber line = omega arith in

@@ -5,7 +5,7 @@ use mathlib.Core.Path.{_≡_, refl, sym, ap, _∙_, subst}
 use mathlib.Core.List.{List, [], _∷_, _++_, append-assoc, append-nil}
 use native.Mathlib.Omega.{arith}
 use native.Mathlib.Nat.{zero-add}
-use lib.ListN.{length, take, drop, length-append}
+use lib.ListN.{length, take, drop, length-append, length-map}
 use lib.Seq.{take-append-seam, take-at, drop-at, drop-length}
 use lib.Dec.{ltb}
 use Rattle.book.specs.Body.{cardNumbers, endOf}
@@ -18,14 +18,10 @@ use Rattle.book.proofs.Standing.{stands-front, stands-back}
 
 -- a name and a body for each curve
 pub names-length : (curves : List Curve) → length (namesOf curves) ≡ length curves
-unfolding namesOf
-names-length [] = refl
-names-length (curve ∷ curves) = ap suc (names-length curves)
+names-length curves = length-map curves (λ (curve : Curve). curve .name)
 
 pub bodies-length : (curves : List Curve) → length (bodiesOf curves) ≡ length curves
-unfolding bodiesOf
-bodies-length [] = refl
-bodies-length (curve ∷ curves) = ap suc (bodies-length curves)
+bodies-length curves = length-map curves (λ (curve : Curve). curve .numbers)
 
 -- Lengths.
 digits-most : (k v : ℕ) → length (digitsText k v) ≤ k
@@ -128,7 +124,7 @@ module _ (curves : List Curve) where
 -- the curves of the list that a book fills
 pub curves-read : (text : List ℕ) (curves : List Curve) (at line end : ℕ) (rest : List ℕ) → Each IsBody (bodiesOf curves)
     → Stands text at (contentsTexts line (namesOf curves)) end → curvesIn (length curves) text (entries at line curves ++ rest) ≡ curves
-unfolding Each namesOf bodiesOf contentsTexts entries curvesIn curveIn
+unfolding Each contentsTexts entries curvesIn curveIn
 curves-read text [] at line end rest eights s = refl
 curves-read text (curve ∷ curves) at line end rest eights s =
     let next : ℕ = at + length (contentsText (curve .name) line) in

@@ -4,8 +4,8 @@ use Prim.Native.Nat.{ℕ, zero, suc, _+_, _*_, _/_, _%_, _^_, _≤_, _<_}
 use mathlib.Core.Path.{_≡_, sym, ap, _∙_}
 use mathlib.Core.List.{List, [], _∷_, _++_}
 use native.Mathlib.Omega.{arith}
-use native.Mathlib.Nat.{pow-suc, pow-le-pow-right, lt-of-lt-of-le}
-use lib.Dec.{ltb, lit<}
+use native.Mathlib.Nat.{pow-suc}
+use lib.Dec.{ltb}
 use borrow.Author.Tests.{lt-ltb, le-ltb, ltb-true, ltb-false}
 use Rattle.book.specs.Printed.{digitsText}
 use Rattle.book.proofs.Places.{cond-case}
@@ -29,12 +29,9 @@ text-next k v d h l =
     let r : (v * 10 + d) % 10 ≡ d = omega arith in
     text-more k (v * 10 + d) (omega arith) ∙ rw (q, r)
 
--- powers of ten: all digits but the last, and more digits
+-- all digits but the last
 pub tenth-below : (n v : ℕ) → v < 10 ^ suc n → v / 10 < 10 ^ n
 tenth-below n v h = omega (arith, pow-suc 10 n)
-
-pub power-wide : (m n v : ℕ) → m ≤ n → v < 10 ^ m → v < 10 ^ n
-power-wide m n v l h = lt-of-lt-of-le h (pow-le-pow-right {n = 10} (lit< tt) {i = m} {j = n} l)
 
 -- a number of at most n + 1 digits has the same text where one digit more may stand
 text-wider : (n v : ℕ) → v < 10 ^ suc n → digitsText (suc n) v ≡ digitsText (suc (suc n)) v

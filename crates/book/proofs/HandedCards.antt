@@ -20,7 +20,7 @@ use Rattle.book.proofs.BookMeaning.{meaning}
 entries-numbers : (before : List Curve) (curve : Curve) (later : List Curve) (at line : ℕ) (rest : List ℕ)
     → Each IsBody (bodiesOf (before ++ (curve ∷ later)))
     → Starts (drop (curveWidth * length before + 2) (entries at line (before ++ (curve ∷ later)) ++ rest)) (curve .numbers)
-unfolding entries bodiesOf Each
+unfolding entries Each
 entries-numbers [] curve later at line rest bodies =
     record {
       rest = entries (at + length (contentsText (curve .name) line)) (line + 1) later ++ rest;
@@ -43,7 +43,7 @@ entries-numbers (first ∷ before) curve later at line rest bodies =
 
 -- the curve itself has a body of eight numbers
 own-body : (before : List Curve) (curve : Curve) (later : List Curve) → Each IsBody (bodiesOf (before ++ (curve ∷ later))) → IsBody (curve .numbers)
-unfolding bodiesOf Each
+unfolding Each
 own-body [] curve later bodies = bodies .0
 own-body (first ∷ before) curve later bodies = own-body before curve later (bodies .1)
 

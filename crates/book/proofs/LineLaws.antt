@@ -11,14 +11,14 @@ use borrow.Author.Tests.{eqb-false, eq-eqb, ne-eqb}
 use Rattle.book.specs.Number.{numberAt}
 use Rattle.book.specs.Name.{nameAt, twinAt}
 use Rattle.book.specs.Contents.{headed, headingAt, contentsLineOf, contentsLine, headingNext, afterHeading}
-use Rattle.book.specs.Body.{endOf, fieldThen, bodyFrom}
+use Rattle.book.specs.Body.{cardNumbers, endOf, fieldThen, bodyFrom}
 use Rattle.book.specs.declared.text.Field.{Field}
 use Rattle.book.specs.declared.text.Field.the-variants.{Value, NoValue}
 use Rattle.book.specs.declared.lines.Heading.{Heading}
 use Rattle.book.specs.declared.lines.Heading.the-variants.{Entry, NoEntry}
 use Rattle.book.specs.declared.lines.Line.{Line}
 use Rattle.book.specs.declared.lines.Line.the-variants.{Next, Fault}
-use Rattle.book.proofs.Places.{cond-case, FieldIn, field-in}
+use Rattle.book.proofs.Places.{cond-case, none-left, FieldIn, field-in}
 use Rattle.book.proofs.Names.{name-in}
 
 -- a blank stands before another number of a body
@@ -32,25 +32,18 @@ end-above zero = omega arith
 end-above (suc k) = omega arith
 
 module _ (text : List ℕ) (at k end : ℕ) (more : 0 < k) (ends : end ≡ endOf (k - 1)) where
-  body-turn : bodyFrom k text at ≡ fieldThen (numberAt text at end) (bodyFrom (k - 1) text)
+  -- one number of a body, and what follows it
+  pub body-turn : {f : Field} → numberAt text at end ≡ f → bodyFrom k text at ≡ fieldThen f (bodyFrom (k - 1) text)
   unfolding bodyFrom
-  body-turn =
+  body-turn q =
       let p : k ≡ suc (k - 1) = omega arith in
-      ap (λ (m : ℕ). bodyFrom m text at) p ∙ ap (λ (x : ℕ). fieldThen (numberAt text at x) (bodyFrom (k - 1) text)) (sym ends)
-
-  -- one number of a body
-  pub body-more : {v next : ℕ} → numberAt text at end ≡ Value v next → bodyFrom k text at ≡ bodyFrom (k - 1) text next
-  body-more q = body-turn ∙ ap (λ (f : Field). fieldThen f (bodyFrom (k - 1) text)) q
-
-  -- a malformed one
-  pub body-fault : numberAt text at end ≡ NoValue → bodyFrom k text at ≡ Fault 26
-  body-fault q = body-turn ∙ ap (λ (f : Field). fieldThen f (bodyFrom (k - 1) text)) q
+      ap (λ (m : ℕ). bodyFrom m text at) p
+      ∙ ap (λ (g : Field). fieldThen g (bodyFrom (k - 1) text)) (ap (numberAt text at) (sym ends) ∙ q)
 
 -- after its last number a body ends
 pub body-none : (text : List ℕ) (at k : ℕ) → k ≤ 0 → bodyFrom k text at ≡ Next at
 unfolding bodyFrom
-body-none text at zero h = refl
-body-none text at (suc k) h = absurd (omega arith)
+body-none text at = none-left (λ k. bodyFrom k text at)
 
 -- the place after a line is at most m
 abbrev LineIn : ℕ → Line → Type 0
@@ -68,8 +61,8 @@ body-in (suc k) text at h =
     field-then-in (length text) (numberAt text at (endOf k)) (bodyFrom k text) (field-in text (endOf k) (end-above k) at) (λ p l. body-in k text p l)
 
 -- the place after a body lies inside the text or at its end
-pub body-next : (text : List ℕ) (at : ℕ) {p : ℕ} → at ≤ length text → bodyFrom 8 text at ≡ Next p → p ≤ length text
-body-next text at h e = subst (LineIn (length text)) e (body-in 8 text at h)
+pub body-next : (text : List ℕ) (at : ℕ) {p : ℕ} → at ≤ length text → bodyFrom cardNumbers text at ≡ Next p → p ≤ length text
+body-next text at h e = subst (LineIn (length text)) e (body-in cardNumbers text at h)
 
 module _ (text : List ℕ) (at : ℕ) where
   -- no name, no contents line

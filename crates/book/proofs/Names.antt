@@ -1,9 +1,9 @@
 -- Names at places of a text: their bytes, their sizes, and where the same name stands earlier.
 -- Assumes nothing.
-use Prim.Native.Nat.{ℕ, zero, suc, _+_, _-_, _≤_, _<_, suc-le-suc}
+use Prim.Native.Nat.{ℕ, zero, suc, _+_, _-_, _≤_, _<_}
 use mathlib.Core.Path.{_≡_, refl, ap, _∙_}
 use mathlib.Core.Bool.{true, false, cond, false≢true}
-use mathlib.Core.List.{List, [], _∷_}
+use mathlib.Core.List.{List}
 use native.Mathlib.Omega.{arith}
 use native.Mathlib.Numerals.{add-one}
 use lib.ListN.{length, getD, drop, drop-of-length-le}
@@ -12,13 +12,11 @@ use lib.Dec.{eqb}
 use borrow.Author.Tests.{eqb-true, eq-eqb, ne-eqb}
 use Rattle.book.specs.Number.{byteAt}
 use Rattle.book.specs.Name.{isNameByte, nameRun, nameAt, sameBytes, twinAt}
-use Rattle.book.proofs.Places.{cond-case, byte-inside}
+use Rattle.book.proofs.Places.{cond-case, none-left, inside, byte-inside}
 
 -- a byte of a name stands inside the text
 pub name-byte-inside : (text : List ℕ) (at : ℕ) → isNameByte (byteAt text at) ≡ true → at < length text
-name-byte-inside [] at h = absurd (false≢true h)
-name-byte-inside (x ∷ text) zero h = omega arith
-name-byte-inside (x ∷ text) (suc at) h = suc-le-suc (name-byte-inside text at h)
+name-byte-inside = inside (λ b. isNameByte b ≡ true) false≢true
 
 module _ (text : List ℕ) where
   -- where no byte of a name stands, none is counted
@@ -78,8 +76,7 @@ module _ (text : List ℕ) (a b : ℕ) where
   -- no bytes are the same bytes
   pub same-none : (k : ℕ) → k ≤ 0 → sameBytes k text a b ≡ true
   unfolding sameBytes
-  same-none zero h = refl
-  same-none (suc k) h = absurd (omega arith)
+  same-none = none-left (λ k. sameBytes k text a b)
 
   -- one byte that is the same
   pub same-turn : (k : ℕ) → 0 < k → byteAt text a ≡ byteAt text b → sameBytes k text a b ≡ sameBytes (k - 1) text (a + 1) (b + 1)
@@ -95,9 +92,9 @@ module _ (text : List ℕ) (a b : ℕ) where
 
 module _ (text earlier : List ℕ) (at size i : ℕ) where
   -- after the last earlier place there is no twin
-  pub twin-none : length earlier ≤ i → twinAt text (drop i earlier) at size ≡ false
+  pub twin-past : length earlier ≤ i → twinAt text (drop i earlier) at size ≡ false
   unfolding twinAt
-  twin-none h = rw (drop-of-length-le earlier h)
+  twin-past h = rw (drop-of-length-le earlier h)
 
   module _ (some : i < length earlier) where
     twin-next : twinAt text (drop i earlier) at size
@@ -106,8 +103,8 @@ module _ (text earlier : List ℕ) (at size i : ℕ) where
     twin-next = rw (drop-cons earlier i 0 some, add-one i)
 
     -- the same name stands at the next place
-    pub twin-found : sameBytes (size + 1) text (getD earlier i 0) at ≡ true → twinAt text (drop i earlier) at size ≡ true
-    twin-found e = twin-next ∙ rw e
+    pub twin-here : sameBytes (size + 1) text (getD earlier i 0) at ≡ true → twinAt text (drop i earlier) at size ≡ true
+    twin-here e = twin-next ∙ rw e
 
     -- it does not
     pub twin-turn : sameBytes (size + 1) text (getD earlier i 0) at ≡ false

@@ -14,9 +14,9 @@ use Rattle.book.specs.Printed.{IsNumber, digitsText, numberText}
 use Rattle.book.specs.LineMeaning.{Stands}
 use Rattle.book.specs.declared.text.Field.{Field}
 use Rattle.book.specs.declared.text.Field.the-variants.{Value, NoValue}
-use Rattle.book.proofs.Places.{cond-case, byte-inside, digit-inside, digits-stop, digits-more, ten-more, field-zero, field-some}
+use Rattle.book.proofs.Places.{cond-case, byte-inside, digit-inside, digits-stop, digits-more, ten-more, power-wide, field-zero, field-some}
 use Rattle.book.proofs.Standing.{byte-there, stands-one, stands-join, stands-front, stands-back}
-use Rattle.book.proofs.Digits.{digit-or, text-one, text-more, text-seven, tenth-below, power-wide}
+use Rattle.book.proofs.Digits.{digit-or, text-one, text-more, text-seven, tenth-below}
 
 -- the byte of a digit
 digit-byte : (b : ℕ) → digitOf b < 10 → b ≡ 48 + digitOf b

@@ -2,7 +2,7 @@
 -- Assumes nothing.
 use Prim.Native.Nat.{ℕ, zero, suc, _+_, _-_, _*_, _^_, _≤_, _<_, suc-le-suc}
 use mathlib.Core.Path.{_≡_, refl, ap, _∙_, subst}
-use mathlib.Core.Bool.{Bool, true, false, cond, _&&_, false≢true}
+use mathlib.Core.Bool.{Bool, true, false, cond}
 use mathlib.Core.List.{List, [], _∷_}
 use native.Mathlib.Omega.{arith}
 use native.Mathlib.Nat.{pow-suc, pow-le-pow-right, lt-of-lt-of-le}
@@ -10,32 +10,32 @@ use native.Mathlib.Numerals.{add-one}
 use lib.ListN.{length}
 use lib.Dec.{ltb, eqb, lit<}
 use borrow.Author.Tests.{lt-ltb, le-ltb, eqb-true, eq-eqb, ne-eqb}
-use Rattle.book.specs.Number.{byteAt, digitAt, endedAt, digitsAt, numberAt, fieldNext}
+use Rattle.book.specs.Number.{byteAt, digitOf, digitAt, endedAt, digitsAt, numberAt, fieldNext}
 use Rattle.book.specs.declared.text.Field.{Field}
 use Rattle.book.specs.declared.text.Field.the-variants.{Value, NoValue}
-
--- where two tests hold, the second does
-pub and-right : (a b : Bool) → (a && b) ≡ true → b ≡ true
-and-right true b e = e
-and-right false b e = absurd (false≢true e)
 
 -- what holds in both cases of a test holds of the choice
 pub cond-case : {A : Type 0} (P : A → Type 0) (b : Bool) (x y : A) → (b ≡ true → P x) → (b ≡ false → P y) → P (cond b x y)
 cond-case P true x y p q = p refl
 cond-case P false x y p q = q refl
 
--- a byte above 0 stands inside the text
-pub byte-inside : (text : List ℕ) (at : ℕ) → 0 < byteAt text at → at < length text
-byte-inside [] at h = absurd (omega arith)
-byte-inside (x ∷ text) zero h = omega arith
-byte-inside (x ∷ text) (suc at) h = suc-le-suc (byte-inside text at h)
+-- where none is left, all is as at the start
+pub none-left : {A : Type 0} (f : ℕ → A) (k : ℕ) → k ≤ 0 → f k ≡ f 0
+none-left f k h = let z : k ≡ 0 = omega arith in ap f z
 
--- a digit stands inside the text
+-- a byte that the 0 past the end is not stands inside the text
+pub inside : (P : ℕ → Type 0) → (P 0 → ⊥) → (text : List ℕ) (at : ℕ) → P (byteAt text at) → at < length text
+inside P not0 [] at h = absurd (not0 h)
+inside P not0 (x ∷ text) zero h = omega arith
+inside P not0 (x ∷ text) (suc at) h = suc-le-suc (inside P not0 text at h)
+
+-- so a byte above 0 does, and a digit
+pub byte-inside : (text : List ℕ) (at : ℕ) → 0 < byteAt text at → at < length text
+byte-inside = inside (λ b. 0 < b) (λ h. omega arith)
+
 pub digit-inside : (text : List ℕ) (at : ℕ) → digitAt text at < 10 → at < length text
 unfolding digitAt
-digit-inside [] at h = absurd (omega arith)
-digit-inside (x ∷ text) zero h = omega arith
-digit-inside (x ∷ text) (suc at) h = suc-le-suc (digit-inside text at h)
+digit-inside = inside (λ b. digitOf b < 10) (λ h. omega arith)
 
 module _ (text : List ℕ) (at v end : ℕ) where
   -- where no digit stands, the number ends
@@ -64,9 +64,9 @@ module _ (text : List ℕ) (at v end : ℕ) where
 pub ten-more : (n v d : ℕ) → v < 10 ^ n → d < 10 → v * 10 + d < 10 ^ (n + 1)
 ten-more n v d h l = rw (add-one, pow-suc) (omega arith)
 
--- a number of at most seven digits
-pub seven-digits : (n v : ℕ) → n ≤ 6 → v < 10 ^ (n + 1) → v < 10000000
-seven-digits n v l h = lt-of-lt-of-le h (pow-le-pow-right {n = 10} (lit< tt) {i = n + 1} {j = 7} (omega arith))
+-- a number of at most m digits has at most n, where n is not smaller
+pub power-wide : (m n v : ℕ) → m ≤ n → v < 10 ^ m → v < 10 ^ n
+power-wide m n v l h = lt-of-lt-of-le h (pow-le-pow-right {n = 10} (lit< tt) {i = m} {j = n} l)
 
 module _ (text : List ℕ) (at end : ℕ) where
   -- no number starts where no digit stands

@@ -88,13 +88,13 @@ paired-length (name ∷ names) [] e = absurd (omega arith)
 paired-length (name ∷ names) (numbers ∷ bodies) e = ap suc (paired-length names bodies (suc-inj e))
 
 paired-names : (names bodies : List (List ℕ)) → length names ≡ length bodies → namesOf (paired names bodies) ≡ names
-unfolding paired namesOf
+unfolding paired
 paired-names [] bodies e = refl
 paired-names (name ∷ names) [] e = absurd (omega arith)
 paired-names (name ∷ names) (numbers ∷ bodies) e = ap (λ (r : List (List ℕ)). name ∷ r) (paired-names names bodies (suc-inj e))
 
 paired-bodies : (names bodies : List (List ℕ)) → length names ≡ length bodies → bodiesOf (paired names bodies) ≡ bodies
-unfolding paired bodiesOf
+unfolding paired
 paired-bodies [] [] e = refl
 paired-bodies [] (numbers ∷ bodies) e = absurd (omega arith)
 paired-bodies (name ∷ names) [] e = absurd (omega arith)

@@ -10,10 +10,10 @@ use lib.Seq.{sets, sets-eq}
 use Rattle.book.specs.Number.{numberAt, fieldValue, fieldNext}
 use Rattle.book.specs.Name.{nameAt}
 use Rattle.book.specs.Contents.{afterHeading}
-use Rattle.book.specs.Body.{endOf, numbersAt, afterNumbers}
-use Rattle.book.specs.Book.{afterHeadings, entryAt, entriesFrom}
+use Rattle.book.specs.Body.{cardNumbers, endOf, numbersAt, afterNumbers}
+use Rattle.book.specs.Book.{mostCurves, curveWidth, leastList, afterHeadings, entryAt, entriesFrom}
 use Rattle.book.specs.declared.text.Field.{Field}
-use Rattle.book.proofs.Places.{field-next-in}
+use Rattle.book.proofs.Places.{none-left, field-next-in}
 use Rattle.book.proofs.LineLaws.{end-above, after-in}
 
 module _ (text : List ℕ) (at k end : ℕ) (more : 0 < k) (ends : end ≡ endOf (k - 1)) (f : Field) (read : f ≡ numberAt text at end) where
@@ -38,14 +38,12 @@ module _ (text : List ℕ) (at k end : ℕ) (more : 0 < k) (ends : end ≡ endOf
 -- after the last number, the place itself
 pub after-numbers-none : (text : List ℕ) (at k : ℕ) → k ≤ 0 → afterNumbers k text at ≡ at
 unfolding afterNumbers
-after-numbers-none text at zero h = refl
-after-numbers-none text at (suc k) h = absurd (omega arith)
+after-numbers-none text at = none-left (λ k. afterNumbers k text at)
 
 -- after the last number, no store
-pub stores-none : (text : List ℕ) (at k : ℕ) (l : List ℕ) (out : ℕ) → k ≤ 0 → sets l out (numbersAt k text at) ≡ l
+pub stores-none : (text : List ℕ) (at : ℕ) (l : List ℕ) (out k : ℕ) → k ≤ 0 → sets l out (numbersAt k text at) ≡ l
 unfolding numbersAt
-stores-none text at zero l out h = refl
-stores-none text at (suc k) l out h = absurd (omega arith)
+stores-none text at l out = none-left (λ k. sets l out (numbersAt k text at))
 
 numbers-length : (k : ℕ) (text : List ℕ) (at : ℕ) → length (numbersAt k text at) ≡ k
 unfolding numbersAt
@@ -61,18 +59,18 @@ after-numbers-in (suc k) text at h =
 
 -- the ten numbers of a curve stored: place, size, and the eight numbers
 pub entry-stores : (text : List ℕ) (heading body : ℕ) (l : List ℕ) (out n : ℕ) → n ≡ nameAt text heading
-    → sets l out (entryAt text heading body) ≡ sets (set (set l out heading) (out + 1) n) (out + 2) (numbersAt 8 text body)
+    → sets l out (entryAt text heading body) ≡ sets (set (set l out heading) (out + 1) n) (out + 2) (numbersAt cardNumbers text body)
 unfolding entryAt
 entry-stores text heading body l out n e =
     let p : suc out ≡ out + 1 = omega arith in
     let q : suc (suc out) ≡ out + 2 = omega arith in
-    ap (λ (m : ℕ). sets (set (set l out heading) m (nameAt text heading)) (suc (suc out)) (numbersAt 8 text body)) p
-    ∙ ap (λ (m : ℕ). sets (set (set l out heading) (out + 1) m) (suc (suc out)) (numbersAt 8 text body)) (sym e)
-    ∙ ap (λ (m : ℕ). sets (set (set l out heading) (out + 1) n) m (numbersAt 8 text body)) q
+    ap (λ (m : ℕ). sets (set (set l out heading) m (nameAt text heading)) (suc (suc out)) (numbersAt cardNumbers text body)) p
+    ∙ ap (λ (m : ℕ). sets (set (set l out heading) (out + 1) m) (suc (suc out)) (numbersAt cardNumbers text body)) (sym e)
+    ∙ ap (λ (m : ℕ). sets (set (set l out heading) (out + 1) n) m (numbersAt cardNumbers text body)) q
 
-entry-length : (text : List ℕ) (heading body : ℕ) → length (entryAt text heading body) ≡ 10
+entry-length : (text : List ℕ) (heading body : ℕ) → length (entryAt text heading body) ≡ curveWidth
 unfolding entryAt
-entry-length text heading body = ap (λ (m : ℕ). suc (suc m)) (numbers-length 8 text body)
+entry-length text heading body = ap (λ (m : ℕ). suc (suc m)) (numbers-length cardNumbers text body)
 
 -- a run of stores in two parts
 sets-append : (xs ys l : List ℕ) (i : ℕ) → sets l i (xs ++ ys) ≡ sets (sets l i xs) (i + length xs) ys
@@ -85,13 +83,12 @@ module _ (text : List ℕ) (heading body : ℕ) (l : List ℕ) (out : ℕ) where
   -- after the last curve, no store
   pub entries-none : (k : ℕ) → k ≤ 0 → sets l out (entriesFrom k text heading body) ≡ l
   unfolding entriesFrom
-  entries-none zero h = refl
-  entries-none (suc k) h = absurd (omega arith)
+  entries-none = none-left (λ k. sets l out (entriesFrom k text heading body))
 
   -- one curve stored
   pub entries-turn : (k : ℕ) {stored : List ℕ} {heading′ body′ : ℕ} → 0 < k → stored ≡ sets l out (entryAt text heading body)
-      → heading′ ≡ afterHeading text heading → body′ ≡ afterNumbers 8 text body
-      → sets l out (entriesFrom k text heading body) ≡ sets stored (out + 10) (entriesFrom (k - 1) text heading′ body′)
+      → heading′ ≡ afterHeading text heading → body′ ≡ afterNumbers cardNumbers text body
+      → sets l out (entriesFrom k text heading body) ≡ sets stored (out + curveWidth) (entriesFrom (k - 1) text heading′ body′)
   unfolding entriesFrom
   entries-turn zero h s e f = absurd (omega arith)
   entries-turn (suc k) h s e f =
@@ -99,27 +96,26 @@ module _ (text : List ℕ) (heading body : ℕ) (l : List ℕ) (out : ℕ) where
       sets-append (entryAt text heading body) _ l out
       ∙ rw (entry-length text heading body, p, s, e, f)
 
-entries-length : (k : ℕ) (text : List ℕ) (heading body : ℕ) → length (entriesFrom k text heading body) ≡ 10 * k
+entries-length : (k : ℕ) (text : List ℕ) (heading body : ℕ) → length (entriesFrom k text heading body) ≡ curveWidth * k
 unfolding entriesFrom
 entries-length zero text heading body = refl
 entries-length (suc k) text heading body =
     length-append (entryAt text heading body) _
-    ∙ ap (λ (m : ℕ). m + length (entriesFrom k text (afterHeading text heading) (afterNumbers 8 text body))) (entry-length text heading body)
-    ∙ omega (arith, entries-length k text (afterHeading text heading) (afterNumbers 8 text body))
+    ∙ ap (λ (m : ℕ). m + length (entriesFrom k text (afterHeading text heading) (afterNumbers cardNumbers text body))) (entry-length text heading body)
+    ∙ omega (arith, entries-length k text (afterHeading text heading) (afterNumbers cardNumbers text body))
 
 -- the stores of n curves are the list's first 10 × n numbers
-pub entries-list : (text : List ℕ) (heading body n : ℕ) (l : List ℕ) → n ≤ 64 → 640 ≤ length l
-    → sets l 0 (entriesFrom n text heading body) ≡ entriesFrom n text heading body ++ drop (10 * n) l
+pub entries-list : (text : List ℕ) (heading body n : ℕ) (l : List ℕ) → n ≤ mostCurves → leastList ≤ length l
+    → sets l 0 (entriesFrom n text heading body) ≡ entriesFrom n text heading body ++ drop (curveWidth * n) l
 entries-list text heading body n l h k =
-    let e : 0 + length (entriesFrom n text heading body) ≡ 10 * n = omega (arith, entries-length n text heading body) in
+    let e : 0 + length (entriesFrom n text heading body) ≡ curveWidth * n = omega (arith, entries-length n text heading body) in
     sets-eq (entriesFrom n text heading body) l 0 (omega arith) ∙ ap (λ (m : ℕ). entriesFrom n text heading body ++ drop m l) e
 
 module _ (text : List ℕ) where
   -- after the last contents line, the place itself
   pub headings-none : (at k : ℕ) → k ≤ 0 → afterHeadings k text at ≡ at
   unfolding afterHeadings
-  headings-none at zero h = refl
-  headings-none at (suc k) h = absurd (omega arith)
+  headings-none at = none-left (λ k. afterHeadings k text at)
 
   -- the place after the next contents line
   pub headings-turn : (at k : ℕ) → 0 < k → afterHeadings k text at ≡ afterHeadings (k - 1) text (afterHeading text at)

@@ -31,7 +31,7 @@ cardOf numbers = cardFrom numbers 0
 abbrev pub cardIn : List ℕ → ℕ → Card
 cardIn list curve = cardFrom list (curveWidth * curve + 2)
 
--- THEOREM (proofs/HandedCards.antt): in the list of a book, whatever list of 640 numbers was lent, each curve's card has the
+-- THEOREM (proofs/HandedCards.antt): in the list of a book, whatever list of 640 numbers or more was lent, each curve's card has the
 -- curve's own numbers
 abbrev pub HandedTheorem : Type 0
 HandedTheorem =

@@ -37,7 +37,7 @@ pub record TextOfBook (text : List ℕ) : Type 0 where
 
 -- THEOREM (proofs/BookMeaning.antt):
 pub record MeaningTheorem : Type 0 where
-  -- the text of the curves of a book is accepted, and the list then has their entries, whatever list of 640 numbers is lent
+  -- the text of the curves of a book is accepted, and the list then has their entries, whatever list of 640 numbers or more is lent
   pub accepted : (curves : List Curve) → IsBook curves → (list : List ℕ) → leastList ≤ length list
       → (replyToBook (bookText curves) (length list) ≡ acceptedOf (length curves))
       × (listAfter (bookText curves) list ≡ bookEntries curves ++ drop (curveWidth * length curves) list)

@@ -2,7 +2,7 @@
 -- Assumes nothing.
 use Prim.Native.Nat.{ℕ, zero, suc, _+_, _/_, _%_, _≤_, _<_}
 use mathlib.Core.Path.{_≡_}
-use mathlib.Core.List.{List, [], _∷_, _++_}
+use mathlib.Core.List.{List, [], _∷_, _++_, map}
 use mathlib.Core.Bool.{true, cond}
 use lib.ListN.{length}
 use lib.Dec.{ltb}
@@ -47,13 +47,11 @@ pub record Curve : Type 0 where
   pub name : List ℕ
   pub numbers : List ℕ
 
-unfoldable pub namesOf : List Curve → List (List ℕ)
-namesOf [] = []
-namesOf (curve ∷ curves) = curve .name ∷ namesOf curves
+abbrev pub namesOf : List Curve → List (List ℕ)
+namesOf = map (λ (curve : Curve). curve .name)
 
-unfoldable pub bodiesOf : List Curve → List (List ℕ)
-bodiesOf [] = []
-bodiesOf (curve ∷ curves) = curve .numbers ∷ bodiesOf curves
+abbrev pub bodiesOf : List Curve → List (List ℕ)
+bodiesOf = map (λ (curve : Curve). curve .numbers)
 
 -- the whole book: n is the count of curves
 unfoldable pub bookText : List Curve → List ℕ

@@ -6,12 +6,21 @@ mod text;
 
 use crate::reply::refused;
 use crate::reply::text_reply;
-use crate::store::LEAST_LIST;
 use crate::store::store_curves;
 ghost use mathlib.Core.Path.{_≡_};
-ghost use Prim.Native.Nat.{_<_};
 ghost use lib.ListN.{length};
 ghost use Rattle.book.specs.Book.{replyToBook, listAfter};
+
+// At most 64 curves and 8192 bytes; eight numbers a card; ten numbers a curve in the list, which has room for 64 curves.
+pub(crate) const MOST_CURVES: u32 = 64;
+
+pub(crate) const MOST_BYTES: usize = 8192;
+
+pub(crate) const CARD_NUMBERS: u32 = 8;
+
+pub(crate) const CURVE_WIDTH: usize = 10;
+
+pub(crate) const LEAST_LIST: usize = 640;
 
 // What a book is answered: number 0 and the count of curves, or the refusal and the line at fault, 0 where it is no line's.
 pub struct BookReply {
@@ -28,12 +37,12 @@ pub fn read_book(text: &[u8], list: &mut [u32]) -> BookReply
     if list.len() < LEAST_LIST {
         return refused(28, 0);
     }
-    let r = text_reply(text);
-    let number = r.number;
+    let reply = text_reply(text);
+    let number = reply.number;
     if number != 0 {
-        return r;
+        return reply;
     }
-    let n = r.count;
-    store_curves(text, n, list);
-    r
+    let count = reply.count;
+    store_curves(text, count, list);
+    reply
 }

@@ -1,14 +1,16 @@
 // Contents lines and bodies.
+use crate::CARD_NUMBERS;
 use crate::text::Field;
 use crate::text::name_size;
 use crate::text::read_number;
 use crate::text::same_bytes;
 ghost use mathlib.Core.Path.{_≡_};
-ghost use Prim.Native.Nat.{_+_, _≤_, _<_};
+ghost use Prim.Native.Nat.{_+_, _≤_};
 ghost use lib.ListN.{length};
 ghost use Rattle.book.specs.Name.{twinAt};
 ghost use Rattle.book.specs.Contents.{headingAt, afterHeading, contentsLine};
-ghost use Rattle.book.specs.Body.{endOf, bodyFrom};
+ghost use Rattle.book.specs.Body.{cardNumbers, endOf, bodyFrom};
+ghost use Rattle.book.specs.Book.{mostBytes};
 
 // A contents line: the size of its name, its number, and the place after it.
 pub(crate) enum Heading {
@@ -27,21 +29,17 @@ pub(crate) enum Line {
 }
 
 // A contents line.
-pub(crate) fn read_heading(text: &[u8], at: usize) -> Heading
+fn read_heading(text: &[u8], at: usize) -> Heading
     requires { ⌜ at ≤ length (now text) ⌝ }
     ensures { λ r. ⌜ r ≡ headingAt (now (text .entry)) at ⌝ }
 {
-    let n = name_size(text, at);
-    if n == 0 {
+    let size = name_size(text, at);
+    if size == 0 {
         return Heading::NoEntry;
     }
-    let f = read_number(text, at + n + 1, 10);
-    match f {
-        Field::Value { value, next } => Heading::Entry {
-            size: n,
-            value,
-            next,
-        },
+    let field = read_number(text, at + size + 1, 10);
+    match field {
+        Field::Value { value, next } => Heading::Entry { size, value, next },
         Field::NoValue => Heading::NoEntry,
     }
 }
@@ -51,8 +49,8 @@ pub(crate) fn after_heading(text: &[u8], at: usize) -> usize
     requires { ⌜ at ≤ length (now text) ⌝ }
     ensures { λ r. ⌜ r ≡ afterHeading (now (text .entry)) at ⌝ }
 {
-    let h = read_heading(text, at);
-    match h {
+    let heading = read_heading(text, at);
+    match heading {
         Heading::Entry {
             size: _,
             value: _,
@@ -63,8 +61,8 @@ pub(crate) fn after_heading(text: &[u8], at: usize) -> usize
 }
 
 // Whether the name of `size` bytes at a place stands at one of the places `earlier`.
-pub(crate) fn twin(text: &[u8], earlier: &[u32], at: usize, size: usize) -> bool
-    requires { ⌜ (length (now text) ≤ 8192) × (at + size ≤ length (now text)) ⌝ }
+fn twin(text: &[u8], earlier: &[u32], at: usize, size: usize) -> bool
+    requires { ⌜ (length (now text) ≤ mostBytes) × (at + size ≤ length (now text)) ⌝ }
     ensures { λ r. ⌜ r ≡ twinAt (now (text .entry)) (now (earlier .entry)) at size ⌝ }
 {
     let mut i: usize = 0;
@@ -81,11 +79,11 @@ pub(crate) fn twin(text: &[u8], earlier: &[u32], at: usize, size: usize) -> bool
 
 // A contents line that must name the line `due`; `earlier` has the places of the names before.
 pub(crate) fn contents_line(text: &[u8], earlier: &[u32], at: usize, due: u32) -> Line
-    requires { ⌜ (length (now text) ≤ 8192) × (at ≤ length (now text)) ⌝ }
+    requires { ⌜ (length (now text) ≤ mostBytes) × (at ≤ length (now text)) ⌝ }
     ensures { λ r. ⌜ r ≡ contentsLine (now (text .entry)) (now (earlier .entry)) at due ⌝ }
 {
-    let h = read_heading(text, at);
-    match h {
+    let heading = read_heading(text, at);
+    match heading {
         Heading::NoEntry => Line::Fault(23),
         Heading::Entry { size, value, next } => {
             if value != due {
@@ -110,15 +108,15 @@ pub(crate) fn end_byte(left: u32) -> u8
 // A body: eight numbers with one blank between.
 pub(crate) fn body(text: &[u8], from: usize) -> Line
     requires { ⌜ from ≤ length (now text) ⌝ }
-    ensures { λ r. ⌜ r ≡ bodyFrom 8 (now (text .entry)) from ⌝ }
+    ensures { λ r. ⌜ r ≡ bodyFrom cardNumbers (now (text .entry)) from ⌝ }
 {
     let mut at = from;
-    let mut left: u32 = 8;
+    let mut left = CARD_NUMBERS;
     while 0 < left {
         left = left - 1;
         let end = end_byte(left);
-        let f = read_number(text, at, end);
-        match f {
+        let field = read_number(text, at, end);
+        match field {
             Field::Value { value: _, next } => {
                 at = next;
             }

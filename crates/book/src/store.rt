@@ -1,4 +1,6 @@
 // The numbers of an accepted text, written into the lent list.
+use crate::CARD_NUMBERS;
+use crate::CURVE_WIDTH;
 use crate::lines::after_heading;
 use crate::lines::end_byte;
 use crate::text::field_next;
@@ -6,48 +8,41 @@ use crate::text::field_value;
 use crate::text::name_size;
 use crate::text::read_number;
 ghost use mathlib.Core.Path.{_≡_};
-ghost use Prim.Native.Nat.{_+_, _*_, _≤_, _<_};
+ghost use Prim.Native.Nat.{_+_, _*_, _≤_};
 ghost use mathlib.Core.List.{_++_};
 ghost use lib.ListN.{length, drop};
 ghost use lib.Seq.{sets};
-ghost use Rattle.book.specs.Body.{numbersAt, afterNumbers};
-ghost use Rattle.book.specs.Book.{entriesFrom, entriesOf, entryAt, afterHeadings};
-
-// The list gets ten numbers a curve, and has room for 64 curves.
-pub(crate) const CURVE_WIDTH: usize = 10;
-
-pub(crate) const LEAST_LIST: usize = 640;
+ghost use Rattle.book.specs.Body.{cardNumbers, numbersAt, afterNumbers};
+ghost use Rattle.book.specs.Book.{mostCurves, mostBytes, curveWidth, leastList, entriesFrom, entriesOf, entryAt, afterHeadings};
 
 // Writes the eight numbers of a body into the list, and returns the place after them.
-pub(crate) fn store_numbers(text: &[u8], from: usize, list: &mut [u32], start: usize) -> usize
-    requires { ⌜ (from ≤ length (now text)) × (start + 8 ≤ length (now list)) ⌝ }
-    ensures { λ r. ⌜ r ≡ afterNumbers 8 (now (text .entry)) from ⌝ }
-    ensures { λ _. ⌜ now (list .exit) ≡ sets (now (list .entry)) start (numbersAt 8 (now (text .entry)) from) ⌝ }
+fn store_numbers(text: &[u8], from: usize, list: &mut [u32], start: usize) -> usize
+    requires { ⌜ from ≤ length (now text) ⌝ }
+    requires { ⌜ start + cardNumbers ≤ length (now list) ⌝ }
+    ensures { λ r. ⌜ r ≡ afterNumbers cardNumbers (now (text .entry)) from ⌝ }
+    ensures { λ _. ⌜ now (list .exit) ≡ sets (now (list .entry)) start (numbersAt cardNumbers (now (text .entry)) from) ⌝ }
 {
     let mut at = from;
     let mut out = start;
-    let mut left: u32 = 8;
+    let mut left = CARD_NUMBERS;
     while 0 < left {
         left = left - 1;
         let end = end_byte(left);
-        let f = read_number(text, at, end);
-        list[out] = field_value(f);
-        at = field_next(at, f);
+        let field = read_number(text, at, end);
+        list[out] = field_value(field);
+        at = field_next(at, field);
         out = out + 1;
     }
     at
 }
 
 // Writes the ten numbers of a curve, and returns the place after its body.
-pub(crate) fn store_curve(
-    text: &[u8],
-    heading: usize,
-    body: usize,
-    list: &mut [u32],
-    out: usize,
-) -> usize
-    requires { ⌜ (length (now text) ≤ 8192) × ((heading ≤ length (now text)) × ((body ≤ length (now text)) × (out + 10 ≤ length (now list)))) ⌝ }
-    ensures { λ r. ⌜ r ≡ afterNumbers 8 (now (text .entry)) body ⌝ }
+fn store_curve(text: &[u8], heading: usize, body: usize, list: &mut [u32], out: usize) -> usize
+    requires { ⌜ length (now text) ≤ mostBytes ⌝ }
+    requires { ⌜ heading ≤ length (now text) ⌝ }
+    requires { ⌜ body ≤ length (now text) ⌝ }
+    requires { ⌜ out + curveWidth ≤ length (now list) ⌝ }
+    ensures { λ r. ⌜ r ≡ afterNumbers cardNumbers (now (text .entry)) body ⌝ }
     ensures { λ _. ⌜ now (list .exit) ≡ sets (now (list .entry)) out (entryAt (now (text .entry)) heading body) ⌝ }
 {
     let size = name_size(text, heading);
@@ -57,7 +52,7 @@ pub(crate) fn store_curve(
 }
 
 // The place after n contents lines.
-pub(crate) fn after_headings(text: &[u8], first: usize, n: u32) -> usize
+fn after_headings(text: &[u8], first: usize, n: u32) -> usize
     requires { ⌜ first ≤ length (now text) ⌝ }
     ensures { λ r. ⌜ r ≡ afterHeadings n (now (text .entry)) first ⌝ }
 {
@@ -71,8 +66,12 @@ pub(crate) fn after_headings(text: &[u8], first: usize, n: u32) -> usize
 }
 
 // Writes the ten numbers of each of n curves from the list's start on.
-pub(crate) fn store_from(text: &[u8], first: usize, body: usize, n: u32, list: &mut [u32])
-    requires { ⌜ (length (now text) ≤ 8192) × ((first ≤ length (now text)) × ((body ≤ length (now text)) × ((n ≤ 64) × (640 ≤ length (now list))))) ⌝ }
+fn store_from(text: &[u8], first: usize, body: usize, n: u32, list: &mut [u32])
+    requires { ⌜ length (now text) ≤ mostBytes ⌝ }
+    requires { ⌜ first ≤ length (now text) ⌝ }
+    requires { ⌜ body ≤ length (now text) ⌝ }
+    requires { ⌜ n ≤ mostCurves ⌝ }
+    requires { ⌜ leastList ≤ length (now list) ⌝ }
     ensures { λ _. ⌜ now (list .exit) ≡ sets (now (list .entry)) 0 (entriesFrom n (now (text .entry)) first body) ⌝ }
 {
     let mut heading = first;
@@ -89,11 +88,13 @@ pub(crate) fn store_from(text: &[u8], first: usize, body: usize, n: u32, list: &
 
 // Writes the curves of an accepted text.
 pub(crate) fn store_curves(text: &[u8], n: u32, list: &mut [u32])
-    requires { ⌜ (length (now text) ≤ 8192) × ((n ≤ 64) × (640 ≤ length (now list))) ⌝ }
-    ensures { λ _. ⌜ now (list .exit) ≡ entriesOf (now (text .entry)) n ++ drop (10 * n) (now (list .entry)) ⌝ }
+    requires { ⌜ length (now text) ≤ mostBytes ⌝ }
+    requires { ⌜ n ≤ mostCurves ⌝ }
+    requires { ⌜ leastList ≤ length (now list) ⌝ }
+    ensures { λ _. ⌜ now (list .exit) ≡ entriesOf (now (text .entry)) n ++ drop (curveWidth * n) (now (list .entry)) ⌝ }
 {
-    let f = read_number(text, 0, 10);
-    let first = field_next(0, f);
+    let field = read_number(text, 0, 10);
+    let first = field_next(0, field);
     let body = after_headings(text, first, n);
     store_from(text, first, body, n, list);
 }

@@ -1,6 +1,6 @@
 // Bytes, numbers and names at places of the text.
 ghost use mathlib.Core.Path.{_≡_};
-ghost use Prim.Native.Nat.{_+_, _*_, _≤_, _<_};
+ghost use Prim.Native.Nat.{_≤_, _<_};
 ghost use lib.ListN.{length};
 ghost use Rattle.book.specs.Number.{byteAt, digitAt, endedAt, digitsAt, numberAt, fieldValue, fieldNext};
 ghost use Rattle.book.specs.Name.{isNameByte, nameRun, nameAt, sameBytes};
@@ -12,14 +12,14 @@ pub(crate) enum Field {
 }
 
 // The byte at a place; 0 past the end.
-pub(crate) fn byte_at(text: &[u8], at: usize) -> u8
+fn byte_at(text: &[u8], at: usize) -> u8
     ensures { λ r. ⌜ r ≡ byteAt (now (text .entry)) at ⌝ }
 {
     if at < text.len() { text[at] } else { 0 }
 }
 
 // The value of the digit at a place; 10 where no digit stands.
-pub(crate) fn digit_at(text: &[u8], at: usize) -> u32
+fn digit_at(text: &[u8], at: usize) -> u32
     ensures { λ r. ⌜ r ≡ digitAt (now (text .entry)) at ⌝ }
 {
     let b = byte_at(text, at);
@@ -33,7 +33,7 @@ pub(crate) fn digit_at(text: &[u8], at: usize) -> u32
 }
 
 // The value, if the byte `end` stands at the place.
-pub(crate) fn ended(text: &[u8], at: usize, value: u32, end: u8) -> Field
+fn ended(text: &[u8], at: usize, value: u32, end: u8) -> Field
     requires { ⌜ at ≤ length (now text) ⌝ }
     ensures { λ r. ⌜ r ≡ endedAt (now (text .entry)) at value end ⌝ }
 {
@@ -49,7 +49,7 @@ pub(crate) fn ended(text: &[u8], at: usize, value: u32, end: u8) -> Field
 }
 
 // At most six digits more after a first one, and the byte `end`.
-pub(crate) fn digits(text: &[u8], from: usize, first: u32, end: u8) -> Field
+fn digits(text: &[u8], from: usize, first: u32, end: u8) -> Field
     requires { ⌜ (from ≤ length (now text)) × (first < 10) ⌝ }
     ensures { λ r. ⌜ r ≡ digitsAt 6 (now (text .entry)) from first end ⌝ }
 {
@@ -84,7 +84,7 @@ pub(crate) fn read_number(text: &[u8], at: usize, end: u8) -> Field
 }
 
 // Whether a capital or a digit stands at a place.
-pub(crate) fn name_byte_at(text: &[u8], at: usize) -> bool
+fn name_byte_at(text: &[u8], at: usize) -> bool
     ensures { λ r. ⌜ r ≡ isNameByte (byteAt (now (text .entry)) at) ⌝ }
 {
     let b = byte_at(text, at);
@@ -104,7 +104,7 @@ pub(crate) fn name_byte_at(text: &[u8], at: usize) -> bool
 }
 
 // How many bytes of a name stand from a place on, of at most eight.
-pub(crate) fn name_run(text: &[u8], from: usize) -> usize
+fn name_run(text: &[u8], from: usize) -> usize
     requires { ⌜ from ≤ length (now text) ⌝ }
     ensures { λ r. ⌜ r ≡ nameRun 8 (now (text .entry)) from ⌝ }
 {

@@ -5,14 +5,14 @@ use mathlib.Core.Path.{_≡_, sym, ap, _∙_}
 use lib.ListN.{length}
 use native.Mathlib.Omega.{arith}
 use borrow.Author.Needs.{needs}
-use Rattle.book.specs.Book.{replyToBook}
+use Rattle.book.specs.Book.{leastList, replyToBook}
 use Rattle.book.specs.declared.BookReply.{BookReply}
 use Rattle.book.proofs.Replies.{accepted-of, reply-short, reply-text, list-kept, list-filled}
 use Rattle.book.proofs.read_book.Statement.{statement}
 use Rattle.book.proofs.read_book.Tie as tie
 
 -- past the first test the list is long enough
-long : (c : tie.Else1) → 640 ≤ length (c .before .before .before .args .list .now)
+long : (c : tie.Else1) → leastList ≤ length (c .before .before .before .args .list .now)
 long c = c .if1 .left
 
 -- past the second the text is accepted

@@ -9,8 +9,8 @@ use Rattle.book.proofs.lines.after_heading.Tie as tie
 read-heading-requires : tie.Need-read-heading-requires
 read-heading-requires c κs = search needs
 
-enum-known-h : tie.Need-enum-known-h
-enum-known-h c = search needs
+enum-known-heading : tie.Need-enum-known-heading
+enum-known-heading c = search needs
 
 enum-told : tie.Need-enum-told
 enum-told c = search needs
@@ -18,7 +18,7 @@ enum-told c = search needs
 returns : tie.Need-returns
 unfolding afterHeading
 returns c =
-    let e = sym (c .before .before .before .read-heading .ensures) ∙ c .before .h .given .1 in
+    let e = sym (c .before .before .before .read-heading .ensures) ∙ c .before .heading .given .1 in
     sym (ap (headingNext (c .before .before .before .before .before .args .at)) e)
 
 returns-2 : tie.Need-returns-2
@@ -29,4 +29,4 @@ returns-2 c =
 
 pub after-heading-spec : {M : Type 1} → statement M
 after-heading-spec =
-    tie.close (tie.spec read-heading-requires enum-known-h enum-told returns returns-2)
+    tie.close (tie.spec read-heading-requires enum-known-heading enum-told returns returns-2)

@@ -5,14 +5,14 @@ use Prim.Native.Nat.{_-_, _≤_}
 use mathlib.Core.Path.{_≡_, refl, sym, _∙_}
 use lib.ListN.{length}
 use borrow.Author.Needs.{needs}
-use Rattle.book.specs.Body.{bodyFrom}
+use Rattle.book.specs.Body.{cardNumbers, bodyFrom}
 use Rattle.book.proofs.Places.{field-next}
-use Rattle.book.proofs.LineLaws.{end-above, body-more, body-fault, body-none}
+use Rattle.book.proofs.LineLaws.{end-above, body-turn, body-none}
 use Rattle.book.proofs.lines.body.Statement.{statement}
 use Rattle.book.proofs.lines.body.Tie as tie
 
 abbrev Inv-loop : tie.InvT-loop
-Inv-loop text from at₀ left₀ at left = (at ≤ length text) × (bodyFrom 8 text from ≡ bodyFrom left text at)
+Inv-loop text from at₀ left₀ at left = (at ≤ length text) × (bodyFrom cardNumbers text from ≡ bodyFrom left text at)
 
 abbrev μ-loop : tie.MeasureT-loop
 μ-loop text from at₀ left₀ at left = left
@@ -29,8 +29,8 @@ end-byte-requires c κs = search needs
 read-number-requires : tie.Need-read-number-requires Inv-loop μ-loop
 read-number-requires c κs = search needs
 
-enum-known-f : tie.Need-enum-known-f Inv-loop μ-loop
-enum-known-f c = search needs
+enum-known-field : tie.Need-enum-known-field Inv-loop μ-loop
+enum-known-field c = search needs
 
 loop-less : tie.Need-loop-less Inv-loop μ-loop
 loop-less c = search needs
@@ -42,9 +42,9 @@ loop-again c =
     let r = c .before .before .before .read-number in
     let e = c .before .before .before .before .end-byte in
     let some = c .before .before .before .before .before .loop-test .taken in
-    let q = sym (r .ensures) ∙ c .before .f .given .1 in (
+    let q = sym (r .ensures) ∙ c .before .field .given .1 in (
       field-next s (e .result) (omega (arith, end-above (l .left - 1))) (l .at) q,
-      l .inv .1 ∙ body-more s (l .at) (l .left) (e .result) some (e .ensures) q,
+      l .inv .1 ∙ body-turn s (l .at) (l .left) (e .result) some (e .ensures) q,
     )
 
 enum-told : tie.Need-enum-told Inv-loop μ-loop
@@ -58,7 +58,7 @@ returns c =
     let e = c .before .before .before .end-byte in
     let some = c .before .before .before .before .loop-test .taken in
     let q = sym (r .ensures) ∙ c .enum-told .given .1 in
-    sym (l .inv .1 ∙ body-fault s (l .at) (l .left) (e .result) some (e .ensures) q)
+    sym (l .inv .1 ∙ body-turn s (l .at) (l .left) (e .result) some (e .ensures) q)
 
 returns-2 : tie.Need-returns-2 Inv-loop μ-loop
 returns-2 c =
@@ -76,7 +76,7 @@ body-spec =
     sub-left
     end-byte-requires
     read-number-requires
-    enum-known-f
+    enum-known-field
     loop-less
     loop-again
     enum-told

@@ -12,25 +12,25 @@ read-heading-requires c κs = search needs
 enum-told : tie.Need-enum-told
 enum-told c = search needs
 
-enum-known-h : tie.Need-enum-known-h
-enum-known-h c = search needs
+enum-known-heading : tie.Need-enum-known-heading
+enum-known-heading c = search needs
 
 returns : tie.Need-returns
 returns c =
     let a = c .before .before .before .before .before .before .before .args in
-    let e = sym (c .before .before .before .before .read-heading .ensures) ∙ c .before .before .h .given .1 in
+    let e = sym (c .before .before .before .before .read-heading .ensures) ∙ c .before .before .heading .given .1 in
     sym (line-wrong (a .text .now) (a .earlier .now) (a .at) (a .due) e (c .if1 .taken))
 
 twin-requires : tie.Need-twin-requires
 twin-requires c κs =
     let a = c .before .before .before .before .before .before .before .args in
-    let e = sym (c .before .before .before .before .read-heading .ensures) ∙ c .before .before .h .given .1 in
+    let e = sym (c .before .before .before .before .read-heading .ensures) ∙ c .before .before .heading .given .1 in
     (search needs, heading-size (a .text .now) (a .at) e)
 
 returns-2 : tie.Need-returns-2
 returns-2 c =
     let a = c .before .before .before .before .before .before .before .before .before .args in
-    let e = sym (c .before .before .before .before .before .before .read-heading .ensures) ∙ c .before .before .before .before .h .given .1 in
+    let e = sym (c .before .before .before .before .before .before .read-heading .ensures) ∙ c .before .before .before .before .heading .given .1 in
     sym (line-twin (a .text .now) (a .earlier .now) (a .at) (a .due) e (c .before .before .if1 .left) (sym (c .before .twin .ensures) ∙ c .if2 .taken))
 
 returns-3 : tie.Need-returns-3
@@ -42,7 +42,7 @@ returns-3 c =
 returns-4 : tie.Need-returns-4
 returns-4 c =
     let a = c .before .before .before .before .before .before .before .before .before .args in
-    let e = sym (c .before .before .before .before .before .before .read-heading .ensures) ∙ c .before .before .before .before .h .given .1 in
+    let e = sym (c .before .before .before .before .before .before .read-heading .ensures) ∙ c .before .before .before .before .heading .given .1 in
     sym (line-good (a .text .now) (a .earlier .now) (a .at) (a .due) e (c .before .before .if1 .left) (sym (c .before .twin .ensures) ∙ c .if2 .left))
 
 pub contents-line-spec : {M : Type 1} → statement M
@@ -51,7 +51,7 @@ contents-line-spec =
     (tie.spec
     read-heading-requires
     enum-told
-    enum-known-h
+    enum-known-heading
     returns
     twin-requires
     returns-2

@@ -24,8 +24,8 @@ add-read-number-2 c = let a = c .before .before .before .args in omega (arith, n
 read-number-requires : tie.Need-read-number-requires
 read-number-requires c κs = let a = c .before .before .before .args in omega (arith, name-in (a .text .now) (a .at) (omega arith))
 
-enum-known-f : tie.Need-enum-known-f
-enum-known-f c = search needs
+enum-known-field : tie.Need-enum-known-field
+enum-known-field c = search needs
 
 enum-told : tie.Need-enum-told
 enum-told c = search needs
@@ -36,7 +36,7 @@ returns-2 c =
     let n = c .before .before .before .before .before .name-size in
     let r = c .before .before .before .read-number in
     sym (heading-is (a .text .now) (a .at) (n .result) (n .ensures) (c .before .before .before .before .if1 .left)
-    ∙ ap (headed (n .result)) (sym (r .ensures) ∙ c .before .f .given .1))
+    ∙ ap (headed (n .result)) (sym (r .ensures) ∙ c .before .field .given .1))
 
 returns-3 : tie.Need-returns-3
 returns-3 c =
@@ -55,7 +55,7 @@ read-heading-spec =
     add-read-number
     add-read-number-2
     read-number-requires
-    enum-known-f
+    enum-known-field
     enum-told
     returns-2
     returns-3)

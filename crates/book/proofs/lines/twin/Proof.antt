@@ -6,7 +6,7 @@ use mathlib.Core.Path.{_≡_, refl, sym, _∙_}
 use lib.ListN.{length, drop}
 use borrow.Author.Needs.{needs}
 use Rattle.book.specs.Name.{twinAt}
-use Rattle.book.proofs.Names.{twin-none, twin-found, twin-turn}
+use Rattle.book.proofs.Names.{twin-past, twin-here, twin-turn}
 use Rattle.book.proofs.lines.twin.Statement.{statement}
 use Rattle.book.proofs.lines.twin.Tie as tie
 
@@ -40,7 +40,7 @@ returns c =
     let a = c .before .before .before .before .before .before .before .args in
     let l = c .before .before .before .before .loop in
     let same = sym (c .before .same-bytes .ensures) ∙ c .if1 .taken in
-    sym (l .inv .1 ∙ twin-found (a .text .now) (a .earlier .now) (a .at) (a .size) (l .i) (c .before .before .before .loop-test .taken) same)
+    sym (l .inv .1 ∙ twin-here (a .text .now) (a .earlier .now) (a .at) (a .size) (l .i) (c .before .before .before .loop-test .taken) same)
 
 add-i : tie.Need-add-i Inv-loop μ-loop
 add-i c = search needs
@@ -59,7 +59,7 @@ returns-2 : tie.Need-returns-2 Inv-loop μ-loop
 returns-2 c =
     let a = c .before .before .before .before .args in
     let l = c .before .loop in
-    sym (l .inv .1 ∙ twin-none (a .text .now) (a .earlier .now) (a .at) (a .size) (l .i) (c .loop-test .left))
+    sym (l .inv .1 ∙ twin-past (a .text .now) (a .earlier .now) (a .at) (a .size) (l .i) (c .loop-test .left))
 
 pub twin-spec : {M : Type 1} → statement M
 twin-spec =

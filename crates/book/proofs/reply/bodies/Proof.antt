@@ -7,7 +7,7 @@ use lib.ListN.{length}
 use borrow.Author.Needs.{needs}
 use Rattle.book.specs.Book.{refusedOf, bodiesFrom}
 use Rattle.book.proofs.LineLaws.{body-next}
-use Rattle.book.proofs.Replies.{bodies-more, bodies-fault, bodies-accept, bodies-tail}
+use Rattle.book.proofs.Replies.{bodies-turn, bodies-accept, bodies-tail}
 use Rattle.book.proofs.reply.bodies.Statement.{statement}
 use Rattle.book.proofs.reply.bodies.Tie as tie
 
@@ -26,11 +26,11 @@ loop-holds c =
 body-requires : tie.Need-body-requires Inv-loop μ-loop
 body-requires c κs = search needs
 
-enum-known-l : tie.Need-enum-known-l Inv-loop μ-loop
-enum-known-l c = search needs
+enum-known-line : tie.Need-enum-known-line Inv-loop μ-loop
+enum-known-line c = search needs
 
-enum-known-l-2 : tie.Need-enum-known-l-2 Inv-loop μ-loop
-enum-known-l-2 c = search needs
+enum-known-line-2 : tie.Need-enum-known-line-2 Inv-loop μ-loop
+enum-known-line-2 c = search needs
 
 add-refused : tie.Need-add-refused Inv-loop μ-loop
 add-refused c = search needs
@@ -46,9 +46,9 @@ returns c =
     let a = c .before .before .before .before .before .before .before .before .args in
     let l = c .before .before .before .before .before .before .loop in
     let some = c .before .before .before .before .before .loop-test .taken in
-    let e = sym (c .before .before .before .before .body .ensures) ∙ c .before .before .l2 .given .1 in
-    let told : c .refused .result ≡ refusedOf (c .before .before .l2 .given .0 .0) (a .n + l .i + 2) = c .refused .ensures in
-    told ∙ sym (l .inv .1 .1 ∙ bodies-fault (a .text .now) (a .n) (l .i) (l .at) some e)
+    let e = sym (c .before .before .before .before .body .ensures) ∙ c .before .before .line2 .given .1 in
+    let told : c .refused .result ≡ refusedOf (c .before .before .line2 .given .0 .0) (a .n + l .i + 2) = c .refused .ensures in
+    told ∙ sym (l .inv .1 .1 ∙ bodies-turn (a .text .now) (a .n) (l .i) (l .at) some e)
 
 add-i : tie.Need-add-i Inv-loop μ-loop
 add-i c = search needs
@@ -61,8 +61,8 @@ loop-again c =
     let a = c .before .before .before .before .before .before .before .args in
     let l = c .before .before .before .before .before .loop in
     let some = c .before .before .before .before .loop-test .taken in
-    let e = sym (c .before .before .before .body .ensures) ∙ c .before .l .given .1 in
-    (search needs, (body-next (a .text .now) (l .at) (l .inv .1 .0) e, l .inv .1 .1 ∙ bodies-more (a .text .now) (a .n) (l .i) (l .at) some e))
+    let e = sym (c .before .before .before .body .ensures) ∙ c .before .line .given .1 in
+    (search needs, (body-next (a .text .now) (l .at) (l .inv .1 .0) e, l .inv .1 .1 ∙ bodies-turn (a .text .now) (a .n) (l .i) (l .at) some e))
 
 returns-2 : tie.Need-returns-2 Inv-loop μ-loop
 returns-2 c =
@@ -95,8 +95,8 @@ bodies-spec =
     μ-loop
     loop-holds
     body-requires
-    enum-known-l
-    enum-known-l-2
+    enum-known-line
+    enum-known-line-2
     add-refused
     add-refused-2
     refused-requires

@@ -9,9 +9,9 @@ use lib.ListN.{length, take}
 use lib.Seq.{length-take-le}
 use borrow.Author.Needs.{needs}
 use Rattle.book.specs.Contents.{contentsLine}
-use Rattle.book.specs.Book.{refusedOf, contentsFrom}
+use Rattle.book.specs.Book.{mostCurves, refusedOf, contentsFrom}
 use Rattle.book.proofs.LineLaws.{contents-next}
-use Rattle.book.proofs.Replies.{contents-end, contents-more, contents-fault}
+use Rattle.book.proofs.Replies.{contents-end, contents-turn}
 use Rattle.book.proofs.reply.contents.Statement.{statement}
 use Rattle.book.proofs.reply.contents.Tie as tie
 
@@ -19,7 +19,7 @@ abbrev Inv-loop : tie.InvT-loop
 Inv-loop text n first places₀ at₀ i₀ places at i =
     (i ≤ n)
     × ((at ≤ length text)
-    × ((length places ≡ 64)
+    × ((length places ≡ mostCurves)
     × (contentsFrom n text n [] first ≡ contentsFrom (n - i) text n (take i places) at)))
 
 abbrev μ-loop : tie.MeasureT-loop
@@ -48,8 +48,8 @@ add-contents-line-2 c = search needs
 contents-line-requires : tie.Need-contents-line-requires Inv-loop μ-loop
 contents-line-requires c κs = search needs
 
-enum-known-l : tie.Need-enum-known-l Inv-loop μ-loop
-enum-known-l c = search needs
+enum-known-line : tie.Need-enum-known-line Inv-loop μ-loop
+enum-known-line c = search needs
 
 cast-places : tie.Need-cast-places Inv-loop μ-loop
 cast-places c = search needs
@@ -60,8 +60,8 @@ mul-places c = search needs
 array-write-places : tie.Need-array-write-places Inv-loop μ-loop
 array-write-places c = search needs
 
-enum-known-l-2 : tie.Need-enum-known-l-2 Inv-loop μ-loop
-enum-known-l-2 c = search needs
+enum-known-line-2 : tie.Need-enum-known-line-2 Inv-loop μ-loop
+enum-known-line-2 c = search needs
 
 add-refused : tie.Need-add-refused Inv-loop μ-loop
 add-refused c = search needs
@@ -76,9 +76,9 @@ returns c =
     let some = c .before .before .before .before .before .before .loop-test .taken in
     let r = c .before .before .before .before .contents-line in
     let line : r .result ≡ contentsLine (a .text .now) (take (l .i) (l .places)) (l .at) (a .n + l .i + 2) = r .ensures in
-    let e = sym line ∙ c .before .before .l2 .given .1 in
-    let told : c .refused .result ≡ refusedOf (c .before .before .l2 .given .0 .0) (l .i + 2) = c .refused .ensures in
-    told ∙ sym (l .inv .1 .1 .1 ∙ contents-fault (a .text .now) (a .n) (l .i) (l .places) (l .at) some (omega arith) e)
+    let e = sym line ∙ c .before .before .line2 .given .1 in
+    let told : c .refused .result ≡ refusedOf (c .before .before .line2 .given .0 .0) (l .i + 2) = c .refused .ensures in
+    told ∙ sym (l .inv .1 .1 .1 ∙ contents-turn (a .text .now) (a .n) (l .i) (l .places) (l .at) some (omega arith) e)
 
 add-i : tie.Need-add-i Inv-loop μ-loop
 add-i c = search needs
@@ -93,11 +93,11 @@ loop-again c =
     let some = c .before .before .before .before .before .loop-test .taken in
     let r = c .before .before .before .contents-line in
     let line : r .result ≡ contentsLine (a .text .now) (take (l .i) (l .places)) (l .at) (a .n + l .i + 2) = r .ensures in
-    let e = sym line ∙ c .before .l .given .1 in (
+    let e = sym line ∙ c .before .line .given .1 in (
       search needs,
       (
         contents-next (a .text .now) (take (l .i) (l .places)) (l .at) (a .n + l .i + 2) e,
-        (search needs, l .inv .1 .1 .1 ∙ contents-more (a .text .now) (a .n) (l .i) (l .places) (l .at) some (omega arith) e),
+        (search needs, l .inv .1 .1 .1 ∙ contents-turn (a .text .now) (a .n) (l .i) (l .places) (l .at) some (omega arith) e),
       ),
     )
 
@@ -123,11 +123,11 @@ contents-spec =
     add-contents-line
     add-contents-line-2
     contents-line-requires
-    enum-known-l
+    enum-known-line
     cast-places
     mul-places
     array-write-places
-    enum-known-l-2
+    enum-known-line-2
     add-refused
     refused-requires
     returns

@@ -4,13 +4,14 @@ use Prim.Native.Nat.{_≤_}
 use mathlib.Core.Path.{sym, _∙_}
 use lib.ListN.{length}
 use borrow.Author.Needs.{needs}
+use Rattle.book.specs.Book.{mostBytes}
 use Rattle.book.proofs.Places.{field-next}
 use Rattle.book.proofs.Replies.{text-empty, text-long, text-malformed, text-low, text-high, text-good}
 use Rattle.book.proofs.reply.text_reply.Statement.{statement}
 use Rattle.book.proofs.reply.text_reply.Tie as tie
 
 -- past the first two tests the text is not too long
-short : (c : tie.Else2) → length (c .before .before .before .args .text .now) ≤ 8192
+short : (c : tie.Else2) → length (c .before .before .before .args .text .now) ≤ mostBytes
 short c = c .if2 .left
 
 refused-requires : tie.Need-refused-requires
@@ -36,8 +37,8 @@ enum-told c = search needs
 refused-requires-3 : tie.Need-refused-requires-3
 refused-requires-3 c κs = search needs
 
-enum-known-f : tie.Need-enum-known-f
-enum-known-f c = search needs
+enum-known-field : tie.Need-enum-known-field
+enum-known-field c = search needs
 
 refused-requires-4 : tie.Need-refused-requires-4
 refused-requires-4 c κs = search needs
@@ -46,7 +47,7 @@ returns-3 : tie.Need-returns-3
 returns-3 c =
     let s = c .before .before .before .before .before .before .before .before .before .args .text .now in
     let some = c .before .before .before .before .before .before .before .if1 .left in
-    let e = sym (c .before .before .before .before .before .read-number .ensures) ∙ c .before .before .before .f .given .1 in
+    let e = sym (c .before .before .before .before .before .read-number .ensures) ∙ c .before .before .before .field .given .1 in
     let few = short (c .before .before .before .before .before .before) in
     c .refused4 .ensures ∙ sym (text-low s some few e (c .before .if3 .taken))
 
@@ -57,14 +58,14 @@ returns-4 : tie.Need-returns-4
 returns-4 c =
     let s = c .before .before .before .before .before .before .before .before .before .before .args .text .now in
     let some = c .before .before .before .before .before .before .before .before .if1 .left in
-    let e = sym (c .before .before .before .before .before .before .read-number .ensures) ∙ c .before .before .before .before .f .given .1 in
+    let e = sym (c .before .before .before .before .before .before .read-number .ensures) ∙ c .before .before .before .before .field .given .1 in
     let few = short (c .before .before .before .before .before .before .before) in
     c .refused5 .ensures ∙ sym (text-high s some few e (c .before .before .if3 .left) (c .before .if4 .taken))
 
 contents-requires : tie.Need-contents-requires
 contents-requires c κs =
     let s = c .before .before .before .before .before .before .before .before .before .args .text .now in
-    let e = sym (c .before .before .before .before .before .read-number .ensures) ∙ c .before .before .before .f .given .1 in
+    let e = sym (c .before .before .before .before .before .read-number .ensures) ∙ c .before .before .before .field .given .1 in
     (search needs, (search needs, field-next s 10 (search needs) 0 e))
 
 returns-5 : tie.Need-returns-5
@@ -79,7 +80,7 @@ returns-6 : tie.Need-returns-6
 returns-6 c =
     let s = c .before .before .before .before .before .before .before .before .before .before .args .text .now in
     let some = c .before .before .before .before .before .before .before .before .if1 .left in
-    let e = sym (c .before .before .before .before .before .before .read-number .ensures) ∙ c .before .before .before .before .f .given .1 in
+    let e = sym (c .before .before .before .before .before .before .read-number .ensures) ∙ c .before .before .before .before .field .given .1 in
     let few = short (c .before .before .before .before .before .before .before) in
     c .contents .ensures ∙ sym (text-good s some few e (c .before .before .if3 .left) (c .before .if4 .left))
 
@@ -94,7 +95,7 @@ text-reply-spec =
     read-number-requires
     enum-told
     refused-requires-3
-    enum-known-f
+    enum-known-field
     refused-requires-4
     returns-3
     refused-requires-5

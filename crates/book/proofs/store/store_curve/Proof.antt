@@ -6,7 +6,7 @@ use mathlib.Core.Path.{_≡_, sym, _∙_}
 use lib.ListN.{set, length-set}
 use lib.Seq.{sets}
 use borrow.Author.Needs.{needs}
-use Rattle.book.specs.Body.{numbersAt}
+use Rattle.book.specs.Body.{cardNumbers, numbersAt}
 use Rattle.book.proofs.Names.{name-fits}
 use Rattle.book.proofs.Stores.{entry-stores}
 use Rattle.book.proofs.store.store_curve.Statement.{statement}
@@ -51,7 +51,7 @@ returns c =
     let n = c .before .before .before .before .name-size in
     let p = c .before .before .store-numbers in
     let named = set (set (a .list .now) (a .out) (a .heading)) (a .out + 1) (n .result) in
-    let stored : p .last .1 .1 .0 ≡ sets named (a .out + 2) (numbersAt 8 (a .text .now) (a .body)) = p .ensures .1 in
+    let stored : p .last .1 .1 .0 ≡ sets named (a .out + 2) (numbersAt cardNumbers (a .text .now) (a .body)) = p .ensures .1 in
     (p .ensures .0, stored ∙ sym (entry-stores (a .text .now) (a .heading) (a .body) (a .list .now) (a .out) (n .result) (n .ensures)))
 
 pub store-curve-spec : {M : Type 1} → statement M

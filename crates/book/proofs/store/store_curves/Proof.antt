@@ -8,7 +8,7 @@ use lib.ListN.{length, drop}
 use lib.Seq.{sets}
 use borrow.Author.Needs.{needs}
 use Rattle.book.specs.Number.{fieldNext}
-use Rattle.book.specs.Book.{firstHeading, afterHeadings, entriesFrom, entriesOf}
+use Rattle.book.specs.Book.{curveWidth, firstHeading, afterHeadings, entriesFrom, entriesOf}
 use Rattle.book.proofs.Places.{field-next-in}
 use Rattle.book.proofs.Stores.{entries-list, headings-in}
 use Rattle.book.proofs.store.store_curves.Statement.{statement}
@@ -51,8 +51,8 @@ returns c =
     let stored : p .last .1 .1 .1 .1 .0 ≡ sets l 0 (entriesFrom (a .n) s (f .result) (b .result)) = p .ensures in
     stored
     ∙ entries-list s (f .result) (b .result) (a .n) l (search needs) (search needs)
-    ∙ ap (λ (x : ℕ). entriesFrom (a .n) s (f .result) x ++ drop (10 * a .n) l) (b .ensures)
-    ∙ ap (λ (x : ℕ). entriesFrom (a .n) s x (afterHeadings (a .n) s x) ++ drop (10 * a .n) l) (first-is (c .before .before .before .before .before))
+    ∙ ap (λ (x : ℕ). entriesFrom (a .n) s (f .result) x ++ drop (curveWidth * a .n) l) (b .ensures)
+    ∙ ap (λ (x : ℕ). entriesFrom (a .n) s x (afterHeadings (a .n) s x) ++ drop (curveWidth * a .n) l) (first-is (c .before .before .before .before .before))
 
 pub store-curves-spec : {M : Type 1} → statement M
 store-curves-spec =

@@ -6,7 +6,8 @@ use mathlib.Core.Path.{_≡_, refl, sym, _∙_}
 use lib.ListN.{length}
 use lib.Seq.{sets}
 use borrow.Author.Needs.{needs}
-use Rattle.book.specs.Book.{entriesFrom}
+use Rattle.book.specs.Body.{cardNumbers}
+use Rattle.book.specs.Book.{curveWidth, leastList, entriesFrom}
 use Rattle.book.proofs.LineLaws.{after-in}
 use Rattle.book.proofs.Stores.{after-numbers-in, entries-none, entries-turn}
 use Rattle.book.proofs.store.store_from.Statement.{statement}
@@ -16,7 +17,7 @@ abbrev Inv-loop : tie.InvT-loop
 Inv-loop text first body n list₀ heading₀ at₀ out₀ left₀ list heading at out left =
     (heading ≤ length text)
     × ((at ≤ length text)
-    × ((out + 10 * left ≤ 640)
+    × ((out + curveWidth * left ≤ leastList)
     × ((length list ≡ length list₀)
     × (sets list₀ 0 (entriesFrom n text first body) ≡ sets list out (entriesFrom left text heading at)))))
 
@@ -50,7 +51,7 @@ loop-again c =
     let h = c .after-heading in (
       omega (arith, after-in s (l .heading) (l .inv .0)),
       (
-        omega (arith, after-numbers-in 8 s (l .at) (l .inv .1 .0), p .ensures .0),
+        omega (arith, after-numbers-in cardNumbers s (l .at) (l .inv .1 .0), p .ensures .0),
         (
           omega arith,
           (

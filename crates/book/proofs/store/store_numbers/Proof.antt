@@ -7,7 +7,7 @@ use lib.ListN.{length, set, length-set}
 use lib.Seq.{sets}
 use borrow.Author.Needs.{needs}
 use Rattle.book.specs.Number.{fieldNext}
-use Rattle.book.specs.Body.{numbersAt, afterNumbers}
+use Rattle.book.specs.Body.{cardNumbers, numbersAt, afterNumbers}
 use Rattle.book.proofs.Places.{field-next-in}
 use Rattle.book.proofs.LineLaws.{end-above}
 use Rattle.book.proofs.Stores.{after-numbers-turn, stores-turn, after-numbers-none, stores-none}
@@ -19,8 +19,8 @@ Inv-loop text from list₀ start at₀ out₀ left₀ list at out left =
     (at ≤ length text)
     × ((out + left ≤ length list)
     × ((length list ≡ length list₀)
-    × ((afterNumbers 8 text from ≡ afterNumbers left text at)
-    × (sets list₀ start (numbersAt 8 text from) ≡ sets list out (numbersAt left text at)))))
+    × ((afterNumbers cardNumbers text from ≡ afterNumbers left text at)
+    × (sets list₀ start (numbersAt cardNumbers text from) ≡ sets list out (numbersAt left text at)))))
 
 abbrev μ-loop : tie.MeasureT-loop
 μ-loop text from list₀ start at₀ out₀ left₀ list at out left = left
@@ -87,7 +87,7 @@ returns c =
     let s = c .before .before .before .before .args .text .now in
     let l = c .before .loop in (
       sym (l .inv .1 .1 .1 .0 ∙ after-numbers-none s (l .at) (l .left) (c .loop-test .left)),
-      sym (l .inv .1 .1 .1 .1 ∙ stores-none s (l .at) (l .left) (l .list) (l .out) (c .loop-test .left)),
+      sym (l .inv .1 .1 .1 .1 ∙ stores-none s (l .at) (l .list) (l .out) (l .left) (c .loop-test .left)),
     )
 
 pub store-numbers-spec : {M : Type 1} → statement M

@@ -6,7 +6,7 @@ use mathlib.Core.Path.{_≡_, refl, sym, ap, _∙_}
 use lib.ListN.{length}
 use borrow.Author.Needs.{needs}
 use Rattle.book.specs.Number.{digitAt, digitsAt}
-use Rattle.book.proofs.Places.{digit-inside, digits-stop, digits-none, digits-turn, ten-more, seven-digits}
+use Rattle.book.proofs.Places.{digit-inside, digits-stop, digits-none, digits-turn, ten-more, power-wide}
 use Rattle.book.proofs.text.digits.Statement.{statement}
 use Rattle.book.proofs.text.digits.Tie as tie
 
@@ -37,10 +37,10 @@ returns c =
     ∙ sym (l .inv .1 .1 .1 ∙ digits-stop (a .text .now) (l .at) (l .value) (a .end) (6 - l .n) (omega arith))
 
 mul-value : tie.Need-mul-value Inv-loop μ-loop
-mul-value c = let l = c .before .before .before .loop in omega (arith, seven-digits (l .n) (l .value) (l .inv .0) (l .inv .1 .1 .0))
+mul-value c = let l = c .before .before .before .loop in omega (arith, power-wide (l .n + 1) 7 (l .value) (omega arith) (l .inv .1 .1 .0))
 
 add-value : tie.Need-add-value Inv-loop μ-loop
-add-value c = let l = c .before .before .before .loop in omega (arith, seven-digits (l .n) (l .value) (l .inv .0) (l .inv .1 .1 .0))
+add-value c = let l = c .before .before .before .loop in omega (arith, power-wide (l .n + 1) 7 (l .value) (omega arith) (l .inv .1 .1 .0))
 
 add-at : tie.Need-add-at Inv-loop μ-loop
 add-at c = search needs

@@ -4,9 +4,6 @@ use borrow.Author.Needs.{needs}
 use Rattle.book.specs.Cards.{cardFrom}
 use Rattle.readings.proofs.list.card_of_curve.Statement.{statement}
 use Rattle.readings.proofs.list.card_of_curve.Tie as tie
-use Rattle.readings.proofs.list.card_of_curve.Reads as reads
-use Rattle.readings.proofs.list.card_of_curve.Lts as lts
-use Rattle.readings.proofs.list.number_at.Reads as number-at-reads
 
 mul-at : tie.Need-mul-at
 mul-at c = search needs

@@ -3,10 +3,6 @@
 use borrow.Author.Needs.{needs}
 use Rattle.readings.proofs.list.stands_in_curve.Statement.{statement}
 use Rattle.readings.proofs.list.stands_in_curve.Tie as tie
-use Rattle.readings.proofs.list.stands_in_curve.Reads as reads
-use Rattle.readings.proofs.list.stands_in_curve.Lts as lts
-use Rattle.readings.proofs.list.number_at.Reads as number-at-reads
-use Rattle.readings.proofs.text.is_number.Reads as is-number-reads
 
 returns : tie.Need-returns
 returns c = search needs

@@ -8,6 +8,8 @@ ghost use lib.ListN.{length};
 // Room for 8192 bytes, the most that a book may have, and for some more: the call has to refuse a longer book.
 pub(crate) const BOOK_ROOM: usize = 8208;
 
+const MOST_TIMES: u32 = 8208;
+
 // A byte of the book, and the place in the line after what writes it.
 struct Written {
     understood: bool,
@@ -128,7 +130,7 @@ fn single_piece(line: &[u8]) -> Piece {
     }
 }
 
-// `m TIMES TEXT`: the text is appended that many times.
+// `m TIMES TEXT`: the text is appended that many times. The book has no room for more times than it has bytes.
 fn repeated_piece(line: &[u8]) -> Piece {
     let unread = Piece {
         understood: false,
@@ -140,12 +142,13 @@ fn repeated_piece(line: &[u8]) -> Piece {
     }
     let read = read_number(line, 2, false);
     let end = read.end;
-    if !read.understood || byte_at(line, end) != b' ' {
+    let times = read.figure.size;
+    if !read.understood || byte_at(line, end) != b' ' || times > MOST_TIMES {
         return unread;
     }
     Piece {
         understood: true,
-        times: read.figure.size,
+        times,
         from: end + 1,
     }
 }

@@ -30,7 +30,7 @@ module _ (text : List ℕ) (n i at : ℕ) where
       let k : n - i ≡ suc (n - (i + 1)) = omega arith in
       ap (λ (m : ℕ). bodiesFrom m text n i at) k ∙ ap (λ (l : Line). lineThen l (n + i + 2) (bodiesFrom (n - (i + 1)) text n (i + 1))) e
 
-  bodies-end : n ≤ i → bodiesFrom (n - i) text n i at ≡ cond (eqb at (length text)) (acceptedOf n) (refusedOf 27 (n + i + 2))
+  bodies-end : n ≤ i → bodiesFrom (n - i) text n i at ≡ cond (eqb at (length text)) (acceptedOf n) (refusedOf 27 (2 * n + 2))
   unfolding bodiesFrom
   bodies-end h =
       let k : n - i ≡ 0 = omega arith in
@@ -38,13 +38,13 @@ module _ (text : List ℕ) (n i at : ℕ) where
 
   -- the last one ends the text
   pub bodies-accept : n ≤ i → at ≡ length text → bodiesFrom (n - i) text n i at ≡ acceptedOf n
-  bodies-accept h e = bodies-end h ∙ ap (λ (b : Bool). cond b (acceptedOf n) (refusedOf 27 (n + i + 2))) (eq-eqb _ _ e)
+  bodies-accept h e = bodies-end h ∙ ap (λ (b : Bool). cond b (acceptedOf n) (refusedOf 27 (2 * n + 2))) (eq-eqb _ _ e)
 
   -- 27: it does not
-  pub bodies-tail : i ≤ n → n ≤ i → (at ≡ length text → ⊥) → bodiesFrom (n - i) text n i at ≡ refusedOf 27 (n + n + 2)
-  bodies-tail g h e =
-      let k : n + i + 2 ≡ n + n + 2 = omega arith in
-      bodies-end h ∙ ap (λ (b : Bool). cond b (acceptedOf n) (refusedOf 27 (n + i + 2))) (ne-eqb _ _ e) ∙ ap (refusedOf 27) k
+  pub bodies-tail : n ≤ i → (at ≡ length text → ⊥) → bodiesFrom (n - i) text n i at ≡ refusedOf 27 (n + n + 2)
+  bodies-tail h e =
+      let k : 2 * n + 2 ≡ n + n + 2 = omega arith in
+      bodies-end h ∙ ap (λ (b : Bool). cond b (acceptedOf n) (refusedOf 27 (2 * n + 2))) (ne-eqb _ _ e) ∙ ap (refusedOf 27) k
 
 -- the names of the contents lines before stand at the first i of the places that are kept
 module _ (text : List ℕ) (n i : ℕ) (places : List ℕ) (at : ℕ) where
@@ -116,7 +116,7 @@ line-case P (Fault m) line go f g = g m refl
 module _ (P : BookReply → Type 0) (refused : (number line : ℕ) → P (refusedOf number line)) where
   bodies-hold : (k : ℕ) (text : List ℕ) (n i at : ℕ) → P (acceptedOf n) → P (bodiesFrom k text n i at)
   unfolding bodiesFrom
-  bodies-hold zero text n i at h = cond-case P (eqb at (length text)) _ _ (λ t. h) (λ t. refused 27 (n + i + 2))
+  bodies-hold zero text n i at h = cond-case P (eqb at (length text)) _ _ (λ t. h) (λ t. refused 27 (2 * n + 2))
   bodies-hold (suc k) text n i at h =
       line-case P (bodyFrom cardNumbers text at) (n + i + 2) _ (λ p e. bodies-hold k text n (i + 1) p h) (λ f e. refused f (n + i + 2))
 

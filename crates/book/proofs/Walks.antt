@@ -1,6 +1,6 @@
 -- The reader's walk over a text: whatever it replies, the lines before were right, and the number says what stands there.
 -- Assumes nothing.
-use Prim.Native.Nat.{ℕ, zero, suc, _+_, _≤_, _<_}
+use Prim.Native.Nat.{ℕ, zero, suc, _+_, _*_, _≤_, _<_}
 use mathlib.Core.Path.{_≡_, refl, sym, ap, _∙_, subst}
 use mathlib.Core.Bool.{Bool, true, false, cond, _&&_, true≢false, and-eq-true-iff}
 use mathlib.Core.List.{List, [], _∷_, _++_}
@@ -55,14 +55,14 @@ module _ (lines : LineTheorem) (text : List ℕ) where
   unfolding bodiesFrom
   bodies-meant zero n names bodies at right all left inside =
       let last : length bodies ≡ n = omega arith in
-      cond-case (MeantBy text) (eqb at (length text)) (acceptedOf n) (refusedOf 27 (n + length bodies + 2))
+      cond-case (MeantBy text) (eqb at (length text)) (acceptedOf n) (refusedOf 27 (2 * n + 2))
       (λ t.
       let e : at ≡ length text = eqb-true _ _ t in
       right-book text n names bodies (subst (Right text n names bodies) (drop-of-length-le text {i = at} (omega arith)) right) all last)
       (λ t. record {
         before = record { n = n; names = names; bodies = bodies; rest = drop at text; right = right; all = all };
         last = last;
-        place = omega arith;
+        place = refl;
         bytes = λ e. eqb-false at (length text) t (omega (arith, length-drop at text, ap length e));
       })
   bodies-meant (suc k) n names bodies at right all left inside =

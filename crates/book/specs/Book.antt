@@ -42,9 +42,9 @@ abbrev pub lineThen : Line → ℕ → (ℕ → BookReply) → BookReply
 lineThen (Next p) line go = go p
 lineThen (Fault number) line go = refusedOf number line
 
--- the last k of n bodies, after i others, and 27: no bytes after the last body
+-- the last k of n bodies, after i others; 27, bytes after the last body, names line 2 × n + 2
 unfoldable pub bodiesFrom : ℕ → List ℕ → ℕ → ℕ → ℕ → BookReply
-bodiesFrom zero text n i at = cond (eqb at (length text)) (acceptedOf n) (refusedOf 27 (n + i + 2))
+bodiesFrom zero text n i at = cond (eqb at (length text)) (acceptedOf n) (refusedOf 27 (2 * n + 2))
 bodiesFrom (suc k) text n i at =
     lineThen (bodyFrom cardNumbers text at) (n + i + 2) (λ p. bodiesFrom k text n (i + 1) p)
 

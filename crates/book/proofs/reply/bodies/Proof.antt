@@ -85,7 +85,7 @@ returns-3 c =
     let l = c .before .before .before .loop in
     let none = c .before .before .loop-test .left in
     let told : c .refused2 .result ≡ refusedOf 27 (a .n + a .n + 2) = c .refused2 .ensures in
-    told ∙ sym (l .inv .1 .1 ∙ bodies-tail (a .text .now) (a .n) (l .i) (l .at) (l .inv .0) none (c .before .if1 .left))
+    told ∙ sym (l .inv .1 .1 ∙ bodies-tail (a .text .now) (a .n) (l .i) (l .at) none (c .before .if1 .left))
 
 pub bodies-spec : {M : Type 1} → statement M
 bodies-spec =

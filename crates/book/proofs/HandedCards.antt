@@ -1,19 +1,19 @@
--- Each curve's card in the list of a book has the curve's own numbers.
+-- Each curve in the list of a book hands over the curve's own numbers and name.
 -- Assumes nothing.
 use Prim.Native.Nat.{ℕ, suc, _+_, _*_, _<_}
 use native.Mathlib.Omega.{arith}
 use native.Mathlib.Nat.{add-zero, zero-add}
-use mathlib.Core.Path.{_≡_, sym, ap, _∙_}
+use mathlib.Core.Path.{_≡_, sym, ap, ap₂, _∙_}
 use mathlib.Core.List.{List, [], _∷_, _++_, append-assoc}
-use lib.ListN.{length, getD, drop, List·getD-append}
+use lib.ListN.{length, getD, take, drop, List·getD-append}
 use lib.Seq.{drop-append-add, getD-drop}
 use lib.Dec.{lit<}
 use Rattle.book.specs.Body.{cardNumbers}
 use Rattle.book.specs.Book.{curveWidth}
-use Rattle.book.specs.Printed.{Curve, IsBody, Each, bodiesOf, contentsText}
+use Rattle.book.specs.Printed.{Curve, IsBody, Each, bodiesOf, contentsText, bookText}
 use Rattle.book.specs.LineMeaning.{Starts}
-use Rattle.book.specs.Meaning.{entries}
-use Rattle.book.specs.Cards.{cardFrom, cardIn, HandedTheorem}
+use Rattle.book.specs.Meaning.{entries, curveIn, curvesIn}
+use Rattle.book.specs.Cards.{cardFrom, cardIn, namePlaceIn, nameIn, HandedTheorem}
 use Rattle.book.proofs.BookMeaning.{meaning}
 
 -- the numbers of a curve stand in the entries behind ten numbers for each curve before, and two more
@@ -70,10 +70,45 @@ module _ (list : List ℕ) (at : ℕ) (numbers : List ℕ) (found : Starts (drop
         unit = number-there 7 (lit< tt) i;
       }
 
+-- the first curve's name, and the curves after it
+abbrev firstName : List Curve → List ℕ
+firstName [] = []
+firstName (curve ∷ curves) = curve .name
+
+abbrev laterCurves : List Curve → List Curve
+laterCurves [] = []
+laterCurves (curve ∷ curves) = curves
+
+-- the name of the curve after k others is that after k − 1 others once the first ten numbers are left out
+name-further : (text list : List ℕ) (k : ℕ) → nameIn text list (suc k) ≡ nameIn text (drop curveWidth list) k
+unfolding namePlaceIn
+name-further text list k =
+    let place : curveWidth * suc k ≡ curveWidth + curveWidth * k = omega arith in
+    let size : curveWidth * suc k + 1 ≡ curveWidth + (curveWidth * k + 1) = omega arith in
+    let at = ap (λ (j : ℕ). getD list j 0) place ∙ sym (getD-drop curveWidth list (curveWidth * k) 0) in
+    let long = ap (λ (j : ℕ). getD list j 0) size ∙ sym (getD-drop curveWidth list (curveWidth * k + 1) 0) in
+    ap₂ (λ (n p : ℕ). take n (drop p text)) long at
+
+-- the name of the curve that stands at a place among the curves of a list
+name-there : (before : List Curve) (curve : Curve) (later : List Curve) (text list : List ℕ)
+    → curvesIn (length (before ++ (curve ∷ later))) text list ≡ before ++ (curve ∷ later) → nameIn text list (length before) ≡ curve .name
+unfolding curvesIn curveIn namePlaceIn
+name-there [] curve later text list same = ap (λ (curves : List Curve). firstName curves) same
+name-there (first ∷ before) curve later text list same =
+    name-further text list (length before)
+    ∙ name-there before curve later text (drop curveWidth list) (ap (λ (curves : List Curve). laterCurves curves) same)
+
 pub handed-cards : HandedTheorem
 handed-cards before curve later list book room =
     let curves = before ++ (curve ∷ later) in
     let rest = drop (curveWidth * length curves) list in
     let found = entries-numbers before curve later _ _ rest (book .bodies) in
-    ap (λ (l : List ℕ). cardIn l (length before)) (meaning .accepted curves book list room .1)
-    ∙ card-there _ _ (curve .numbers) found (own-body before curve later (book .bodies) .eight)
+    let stands = meaning .accepted curves book list room .1 in
+    record {
+      card =
+          ap (λ (l : List ℕ). cardIn l (length before)) stands
+          ∙ card-there _ _ (curve .numbers) found (own-body before curve later (book .bodies) .eight);
+      name =
+          ap (λ (l : List ℕ). nameIn (bookText curves) l (length before)) stands
+          ∙ name-there before curve later (bookText curves) _ (meaning .given curves book rest);
+    }

@@ -73,7 +73,7 @@ unfolding entryAt
 entry-length text heading body = ap (λ (m : ℕ). suc (suc m)) (numbers-length cardNumbers text body)
 
 -- a run of stores in two parts
-sets-append : (xs ys l : List ℕ) (i : ℕ) → sets l i (xs ++ ys) ≡ sets (sets l i xs) (i + length xs) ys
+pub sets-append : (xs ys l : List ℕ) (i : ℕ) → sets l i (xs ++ ys) ≡ sets (sets l i xs) (i + length xs) ys
 sets-append [] ys l i = let z : i ≡ i + 0 = omega arith in ap (λ (k : ℕ). sets l k ys) z
 sets-append (x ∷ xs) ys l i =
     let z : suc i + length xs ≡ i + suc (length xs) = omega arith in

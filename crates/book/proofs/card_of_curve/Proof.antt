@@ -1,9 +1,9 @@
--- `readings::list::card_of_curve` meets its contract: the card is the one that the book's rules hand over.
+-- `book::card_of_curve` meets its contract.
 -- Assumes nothing.
 use borrow.Author.Needs.{needs}
 use Rattle.book.specs.Cards.{cardFrom}
-use Rattle.readings.proofs.list.card_of_curve.Statement.{statement}
-use Rattle.readings.proofs.list.card_of_curve.Tie as tie
+use Rattle.book.proofs.card_of_curve.Statement.{statement}
+use Rattle.book.proofs.card_of_curve.Tie as tie
 
 mul-at : tie.Need-mul-at
 mul-at c = search needs

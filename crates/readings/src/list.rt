@@ -3,17 +3,13 @@ use crate::table::mark;
 use crate::text::Figure;
 use crate::text::is_number;
 use book::BookReply;
-use runoff::Card;
-ghost use mathlib.Core.Path.{_≡_};
-ghost use Prim.Native.Nat.{_+_, _*_, _<_};
-ghost use lib.ListN.{getD};
-ghost use Rattle.book.specs.Cards.{cardIn};
+ghost use Prim.Native.Nat.{_<_};
 
 // The list has room for 64 curves of ten numbers, the most that a book can have, and for some more that must stay as they are.
 pub(crate) const LIST_ROOM: usize = 704;
 
 // The list has no room for a curve past this one, counted from 0.
-pub(crate) const LAST_CURVE: usize = 69;
+const LAST_CURVE: usize = 69;
 
 pub(crate) fn fill_list_with_marks(list: &mut [u32; LIST_ROOM]) {
     let mut place: usize = 0;
@@ -52,14 +48,6 @@ pub(crate) fn list_untouched_from(list: &[u32; LIST_ROOM]) -> u32 {
     0
 }
 
-// A number of the list.
-fn number_at(list: &[u32; LIST_ROOM], place: usize) -> u32
-    requires { ⌜ place < 704 ⌝ }
-    ensures { λ r. ⌜ r ≡ getD (now (list .entry)) place 0 ⌝ }
-{
-    list[place]
-}
-
 // Whether a figure stands in a column of a curve. It stands in no curve past the last that the call counts.
 pub(crate) fn stands_in_curve(
     list: &[u32; LIST_ROOM],
@@ -78,23 +66,5 @@ pub(crate) fn stands_in_curve(
         return false;
     }
     let place = 10 * number + column;
-    is_number(figure, number_at(list, place))
-}
-
-// The card of a curve: the eight numbers after the place and the length of its name.
-pub(crate) fn card_of_curve(list: &[u32; LIST_ROOM], curve: usize) -> Card
-    requires { ⌜ curve < 70 ⌝ }
-    ensures { λ r. ⌜ r ≡ cardIn (now (list .entry)) curve ⌝ }
-{
-    let at = 10 * curve + 2;
-    Card {
-        profile: number_at(list, at),
-        terrain: number_at(list, at + 1),
-        radius: number_at(list, at + 2),
-        clothoid: number_at(list, at + 3),
-        full_slope: number_at(list, at + 4),
-        full_widening: number_at(list, at + 5),
-        step: number_at(list, at + 6),
-        unit: number_at(list, at + 7),
-    }
+    is_number(figure, list[place])
 }

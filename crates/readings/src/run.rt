@@ -1,9 +1,7 @@
 // Runs a line of the text: a group, a book, a card, or figures that are expected of the last book or card.
 use crate::books::BOOK_ROOM;
 use crate::books::append_line;
-use crate::list::LAST_CURVE;
 use crate::list::LIST_ROOM;
-use crate::list::card_of_curve;
 use crate::list::fill_list_with_marks;
 use crate::list::list_untouched_from;
 use crate::list::run_book;
@@ -186,12 +184,12 @@ fn try_card(run: Run, line: Line, numbers: &mut [i32; ROOM]) -> Run {
 // `h CURVE`: fills the table for the card of a curve in the list, curves counted from 0. No curve is past the last that was read.
 fn try_curve(run: Run, line: Line, numbers: &mut [i32; ROOM], list: &[u32; LIST_ROOM]) -> Run {
     let figure = line.figures[0];
-    let curve = figure.size as usize;
-    let count = run.book_reply.count as usize;
-    if !is_one_number(line) || curve >= count || curve > LAST_CURVE {
+    let curve = figure.size;
+    let count = run.book_reply.count;
+    if !is_one_number(line) || curve >= count {
         return run.not_understood();
     }
-    run_with_card(run, card_of_curve(list, curve), numbers)
+    run_with_card(run, book::card_of_curve(list, curve), numbers)
 }
 
 // One figure compared with a number.

@@ -1,0 +1,5 @@
+pub mod Decimal
+pub mod Buffer
+pub mod Text
+pub mod Sheet
+pub mod RampSheet

@@ -1,0 +1,34 @@
+-- Document 01's own sheet, and its two refusals, byte for byte.
+-- Assumes nothing.
+use Prim.Native.Nat.{ℕ}
+use mathlib.Core.Path.{_≡_}
+use mathlib.Core.List.{List, [], _∷_, _++_}
+use lib.ListN.{replicate}
+use Rattle.book.specs.Book.{leastList}
+use Rattle.book.specs.RampBook.{rampText}
+use Rattle.sheet_text.specs.Text.{refusedText, refusedBookText}
+use Rattle.sheet_text.specs.Sheet.{sheetOf}
+
+-- RAMP
+abbrev pub rampName : List ℕ
+rampName = 82 ∷ 65 ∷ 77 ∷ 80 ∷ []
+
+-- RAMP 3
+-- 0 0 0 105 172 105 52
+-- 20000 400 12 93 172 240 292
+-- 30000 600 -68 1 172 307 412
+abbrev pub rampSheet : List ℕ
+rampSheet =
+    (82 ∷ 65 ∷ 77 ∷ 80 ∷ 32 ∷ 51 ∷ 10 ∷ [])
+    ++ ((48 ∷ 32 ∷ 48 ∷ 32 ∷ 48 ∷ 32 ∷ 49 ∷ 48 ∷ 53 ∷ 32 ∷ 49 ∷ 55 ∷ 50 ∷ 32 ∷ 49 ∷ 48 ∷ 53 ∷ 32 ∷ 53 ∷ 50 ∷ 10 ∷ [])
+    ++ ((50 ∷ 48 ∷ 48 ∷ 48 ∷ 48 ∷ 32 ∷ 52 ∷ 48 ∷ 48 ∷ 32 ∷ 49 ∷ 50 ∷ 32 ∷ 57 ∷ 51 ∷ 32 ∷ 49 ∷ 55 ∷ 50 ∷ 32 ∷ 50 ∷ 52 ∷ 48 ∷ 32 ∷ 50 ∷ 57 ∷ 50 ∷ 10 ∷ [])
+    ++ (51 ∷ 48 ∷ 48 ∷ 48 ∷ 48 ∷ 32 ∷ 54 ∷ 48 ∷ 48 ∷ 32 ∷ 45 ∷ 54 ∷ 56 ∷ 32 ∷ 49 ∷ 32 ∷ 49 ∷ 55 ∷ 50 ∷ 32 ∷ 51 ∷ 48 ∷ 55 ∷ 32 ∷ 52 ∷ 49 ∷ 50 ∷ 10 ∷ [])))
+
+-- THEOREM (proofs/RampPrints.antt):
+pub record RampSheet : Type 0 where
+  -- the sheet of RAMP's book, read into a list of 640 noughts
+  pub sheet : sheetOf rampText (replicate leastList 0) ≡ rampSheet
+  -- RAMP refused 8
+  pub card : refusedText rampName 8 ≡ 82 ∷ 65 ∷ 77 ∷ 80 ∷ 32 ∷ 114 ∷ 101 ∷ 102 ∷ 117 ∷ 115 ∷ 101 ∷ 100 ∷ 32 ∷ 56 ∷ 10 ∷ []
+  -- book 24 line 2
+  pub book : refusedBookText 24 2 ≡ 98 ∷ 111 ∷ 111 ∷ 107 ∷ 32 ∷ 50 ∷ 52 ∷ 32 ∷ 108 ∷ 105 ∷ 110 ∷ 101 ∷ 32 ∷ 50 ∷ 10 ∷ []

@@ -1,0 +1,77 @@
+-- Document 01, the sheet printer: the sheet of a book, "curves in book order, from a table long enough for every card".
+-- Assumes nothing.
+use Prim.Native.Nat.{ℕ, zero, suc, _≤_}
+use mathlib.Core.Bool.{cond}
+use mathlib.Core.Path.{_≡_}
+use mathlib.Core.List.{List, [], _∷_, _++_}
+use lib.Dec.{eqb}
+use lib.IntN.{ℤ}
+use lib.ListN.{length}
+use Rattle.runoff.specs.declared.Card.{Card}
+use Rattle.runoff.specs.Rows.{cells, rowOf, stationOf, rowCount}
+use Rattle.runoff.specs.Refusal.{refusal}
+use Rattle.runoff.specs.Table.{replyTo, tableAfter}
+use Rattle.book.specs.declared.BookReply.{BookReply}
+use Rattle.book.specs.Book.{leastList, replyToBook, listAfter}
+use Rattle.book.specs.Printed.{Curve, IsName, IsBook, bookText}
+use Rattle.book.specs.Meaning.{curvesIn}
+use Rattle.book.specs.Cards.{cardOf, cardIn, nameIn}
+use Rattle.sheet_text.specs.Text.{rowText, endedText, blank, curveText, refusedText, bookLine}
+
+-- the lines of the first k rows of a card
+unfoldable pub rowLines : Card → ℕ → List ℕ
+rowLines card zero = []
+rowLines card (suc k) = rowLines card k ++ rowText (cells (rowOf card (stationOf card k)))
+
+-- a curve: name and row count, then the rows of its card; or the number that refuses the card
+unfoldable pub cardSheet : List ℕ → Card → List ℕ
+cardSheet name card =
+    cond (eqb (refusal card) 0)
+    (name ++ (endedText blank (rowCount card) ++ rowLines card (rowCount card)))
+    (refusedText name (refusal card))
+
+abbrev pub curveSheet : Curve → List ℕ
+curveSheet curve = cardSheet (curve .name) (cardOf (curve .numbers))
+
+-- curves in book order
+unfoldable pub curvesSheet : List Curve → List ℕ
+curvesSheet [] = []
+curvesSheet (curve ∷ curves) = curveSheet curve ++ curvesSheet curves
+
+-- a table of 2107 numbers is long enough for every card, and a buffer of 25304 bytes for the text of every curve of a book
+abbrev pub enoughNumbers : ℕ
+enoughNumbers = 2107
+
+abbrev pub enoughBytes : ℕ
+enoughBytes = 25304
+
+-- the whole sheet of a text, read into a lent list: the book's own line, and then its curves
+unfoldable pub sheetOf : List ℕ → List ℕ → List ℕ
+sheetOf text list =
+    bookLine (replyToBook text (length list))
+    ++ curvesSheet (curvesIn ((replyToBook text (length list)) .count) text (listAfter text list))
+
+-- what the calls give for a curve of a list, counted from 0: its card is handed to the table call, and its name, the reply and the rows
+-- become text
+abbrev pub partOf : List ℕ → List ℕ → ℕ → List ℤ → List ℕ
+partOf text list curve table =
+    curveText (nameIn text list curve) (replyTo (cardIn list curve) (length table)) (tableAfter (cardIn list curve) table)
+
+-- THEOREM (proofs/Sheets.antt):
+pub record SheetTheorem : Type 0 where
+  -- whatever table of 2107 numbers or more is lent, the text that the table call's reply and rows give is the curve's sheet
+  pub curve : (name : List ℕ) (card : Card) (table : List ℤ) → enoughNumbers ≤ length table
+      → curveText name (replyTo card (length table)) (tableAfter card table) ≡ cardSheet name card
+  -- so what the calls give for each curve of a book is that curve's sheet, whatever list and table that are long enough are lent
+  pub part : (before : List Curve) (curve : Curve) (later : List Curve) (list : List ℕ) (table : List ℤ)
+      → IsBook (before ++ (curve ∷ later)) → leastList ≤ length list → enoughNumbers ≤ length table
+      → partOf (bookText (before ++ (curve ∷ later))) (listAfter (bookText (before ++ (curve ∷ later))) list) (length before) table ≡ curveSheet curve
+  -- no curve of a book needs more than 25304 bytes, nor does the line of any reply to a book
+  pub room : (name : List ℕ) (card : Card) → IsName name → length (cardSheet name card) ≤ enoughBytes
+  pub line : (reply : BookReply) → length (bookLine reply) ≤ enoughBytes
+  -- the sheet of a book is that of its curves, in order
+  pub book : (curves : List Curve) (list : List ℕ) → IsBook curves → leastList ≤ length list
+      → sheetOf (bookText curves) list ≡ curvesSheet curves
+  -- the sheet of a refused book is its one line
+  pub refused : (text list : List ℕ) → ((replyToBook text (length list)) .number ≡ 0 → ⊥)
+      → sheetOf text list ≡ bookLine (replyToBook text (length list))

@@ -1,0 +1,65 @@
+// Prints the sheet of the book of cards on standard input: its curves in book order, or its refusal.
+// It decides nothing: the calls say what is read, reckoned and printed.
+use book::BookReply;
+use sheet_text::Written;
+ghost use Prim.Native.Nat.{_≤_};
+ghost use lib.ListN.{length};
+
+// One byte more than a book may have, so that a longer input is seen to be longer.
+const TEXT_ROOM: usize = 8193;
+
+// Room for the list of every book, for the table of every card, and for the text of every curve.
+const LIST_ROOM: usize = 640;
+
+const TABLE_ROOM: usize = 2107;
+
+const BUFFER_ROOM: usize = 25304;
+
+// Prints the bytes that are counted, which stand in the buffer from its start.
+fn print_written(written: Written, buffer: &[u8])
+    requires { ⌜ written .count ≤ length (now buffer) ⌝ }
+{
+    let count = written.count;
+    io::write_all(1, &buffer[..count]);
+}
+
+// Prints the line of a refused book, and nothing for an accepted one.
+fn print_book(reply: BookReply, buffer: &mut [u8]) {
+    let written = sheet_text::book_text(reply, buffer);
+    print_written(written, buffer);
+}
+
+// Prints a curve of the list, counted from 0.
+fn print_curve(
+    text: &[u8],
+    list: &[u32; LIST_ROOM],
+    curve: u32,
+    table: &mut [i32; TABLE_ROOM],
+    buffer: &mut [u8],
+) {
+    let card = book::card_of_curve(list, curve);
+    let reply = runoff::fill_table(card, table);
+    let written = sheet_text::curve_text(text, list, curve, reply, table, buffer);
+    print_written(written, buffer);
+}
+
+// Prints a refused book's line, or each curve of an accepted one, in order.
+fn print_sheet(text: &[u8]) {
+    let mut list = [0u32; LIST_ROOM];
+    let mut table = [0i32; TABLE_ROOM];
+    let mut buffer = [0u8; BUFFER_ROOM];
+    let reply = book::read_book(text, &mut list);
+    print_book(reply, &mut buffer);
+    let curves = reply.count;
+    let mut curve: u32 = 0;
+    while curve < curves {
+        print_curve(text, &list, curve, &mut table, &mut buffer);
+        curve += 1;
+    }
+}
+
+fn main() {
+    let mut text = [0u8; TEXT_ROOM];
+    let got = io::read_full(0, &mut text);
+    print_sheet(&text[..got]);
+}

@@ -2,8 +2,12 @@
 // It decides nothing: the calls say what is read, reckoned and printed.
 use book::BookReply;
 use sheet_text::Written;
-ghost use Prim.Native.Nat.{_≤_};
-ghost use lib.ListN.{length};
+ghost use mathlib.Core.Path.{_≡_};
+ghost use Prim.Native.Nat.{_≤_, _<_};
+ghost use lib.ListN.{length, replicate};
+ghost use Rattle.book.specs.Book.{leastList, replyToBook, listAfter};
+ghost use Rattle.sheet_text.specs.Buffer.{writtenOf, bufferAfter};
+ghost use Rattle.sheet_text.specs.Sheet.{partOf};
 
 // One byte more than a book may have, so that a longer input is seen to be longer.
 const TEXT_ROOM: usize = 8193;
@@ -29,17 +33,34 @@ fn print_book(reply: BookReply, buffer: &mut [u8]) {
     print_written(written, buffer);
 }
 
-// Prints a curve of the list, counted from 0.
+// Writes the text of a curve of the list, counted from 0: its card goes to the table call, and the reply and the rows become text.
+fn write_curve(
+    text: &[u8],
+    list: &[u32; LIST_ROOM],
+    curve: u32,
+    table: &mut [i32; TABLE_ROOM],
+    buffer: &mut [u8],
+) -> Written
+    ensures { λ r. ⌜ r ≡ writtenOf (partOf (now (text .entry)) (now (list .entry)) curve (now (table .entry))) (length (now (buffer .entry))) ⌝ }
+    ensures { λ _. ⌜ now (buffer .exit) ≡ bufferAfter (partOf (now (text .entry)) (now (list .entry)) curve (now (table .entry))) (now (buffer .entry)) ⌝ }
+{
+    let card = book::card_of_curve(list, curve);
+    let reply = runoff::fill_table(card, table);
+    sheet_text::curve_text(text, list, curve, reply, table, buffer)
+}
+
+// Prints a curve that the book counts, from the list that its text was read into.
 fn print_curve(
     text: &[u8],
     list: &[u32; LIST_ROOM],
     curve: u32,
     table: &mut [i32; TABLE_ROOM],
     buffer: &mut [u8],
-) {
-    let card = book::card_of_curve(list, curve);
-    let reply = runoff::fill_table(card, table);
-    let written = sheet_text::curve_text(text, list, curve, reply, table, buffer);
+)
+    requires { ⌜ now list ≡ listAfter (now text) (replicate leastList 0) ⌝ }
+    requires { ⌜ curve < (replyToBook (now text) leastList) .count ⌝ }
+{
+    let written = write_curve(text, list, curve, table, buffer);
     print_written(written, buffer);
 }
 

@@ -6,19 +6,13 @@ use Rattle.sheet_text.proofs.Buffers.{count-in}
 use Rattle.sheet.proofs.print_curve.Statement.{statement}
 use Rattle.sheet.proofs.print_curve.Tie as tie
 
-card-of-curve-requires : tie.Need-card-of-curve-requires
-card-of-curve-requires c κs = search needs
-
-fill-table-requires : tie.Need-fill-table-requires
-fill-table-requires c κs = search needs
-
-curve-text-requires : tie.Need-curve-text-requires
-curve-text-requires c κs = search needs
+write-curve-requires : tie.Need-write-curve-requires
+write-curve-requires c κs = search needs
 
 print-written-requires : tie.Need-print-written-requires
 print-written-requires c κs =
-    let w = c .before .before .before .curve-text in
-    omega (arith, count-in _ _ (w .ensures .0), w .kept .1 .1 .1 .1 .1 .0)
+    let w = c .before .before .before .write-curve in
+    omega (arith, count-in _ _ (w .ensures .0), w .kept .1 .1 .1 .1 .0)
 
 same-length : tie.Need-same-length
 same-length c = search needs
@@ -28,11 +22,4 @@ returns c = search needs
 
 pub print-curve-spec : {M : Type 1} → statement M
 print-curve-spec =
-    tie.close
-    (tie.spec
-    card-of-curve-requires
-    fill-table-requires
-    curve-text-requires
-    print-written-requires
-    same-length
-    returns)
+    tie.close (tie.spec write-curve-requires print-written-requires same-length returns)

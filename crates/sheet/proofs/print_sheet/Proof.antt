@@ -1,9 +1,10 @@
 -- `sheet::print_sheet` meets its contract. Each turn prints one curve more.
 -- Assumes nothing.
 use borrow.Author.Needs.{needs}
-use Prim.Native.Nat.{_-_}
-use mathlib.Core.Path.{_≡_}
+use Prim.Native.Nat.{_-_, _<_}
+use mathlib.Core.Path.{_≡_, subst}
 use lib.ListN.{length}
+use Rattle.book.specs.declared.BookReply.{BookReply}
 use Rattle.sheet.proofs.print_sheet.Statement.{statement}
 use Rattle.sheet.proofs.print_sheet.Tie as tie
 
@@ -32,7 +33,9 @@ slice-aggregate-print-curve : tie.Need-slice-aggregate-print-curve Inv-loop μ-l
 slice-aggregate-print-curve c = search needs
 
 print-curve-requires : tie.Need-print-curve-requires Inv-loop μ-loop
-print-curve-requires c κs = search needs
+print-curve-requires c κs =
+    let read = c .before .before .before .before .before .before .before .before .before .read-book .ensures in
+    (read .1, subst (λ (r : BookReply). c .before .before .before .before .loop .curve < r .count) (read .0) (c .before .before .before .loop-test .taken))
 
 add-curve : tie.Need-add-curve Inv-loop μ-loop
 add-curve c = search needs

@@ -16,13 +16,13 @@ ghost use Rattle.book.specs.Cards.{cardIn, namePlaceIn};
 // At most 64 curves and 8192 bytes; eight numbers a card; ten numbers a curve in the list, which has room for 64 curves.
 pub(crate) const MOST_CURVES: u32 = 64;
 
-pub(crate) const MOST_BYTES: usize = 8192;
+pub const MOST_BYTES: usize = 8192;
 
 pub(crate) const CARD_NUMBERS: u32 = 8;
 
 pub(crate) const CURVE_WIDTH: usize = 10;
 
-pub(crate) const LEAST_LIST: usize = 640;
+pub const LEAST_LIST: usize = 640;
 
 // What a book is answered: number 0 and the count of curves, or the refusal and the line at fault, 0 where it is no line's.
 pub struct BookReply {

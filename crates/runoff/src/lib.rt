@@ -10,7 +10,6 @@ use crate::conditions::is_outside;
 use crate::conditions::is_too_narrow;
 use crate::conditions::is_too_steep;
 use crate::conditions::is_too_wide;
-use crate::rows::ROW_WIDTH;
 use crate::rows::row_count;
 use crate::rows::write_rows;
 use crate::tables::CLOTHOIDS;
@@ -28,6 +27,9 @@ ghost use Rattle.runoff.specs.Runoff.{stagesOf, runoffOf, madeOf};
 ghost use Rattle.runoff.specs.Lines.{sectionBy};
 ghost use Rattle.runoff.specs.Table.{replyTo, tableAfter};
 ghost use Rattle.runoff.specs.Climbing.{ClimbingTable};
+
+// How many numbers a row has in a table.
+pub const ROW_WIDTH: usize = 7;
 
 // A curve card, its eight numbers in the order of the paper: lengths in mm but the radius in metres, the slope in per mille.
 pub struct Card {

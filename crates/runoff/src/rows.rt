@@ -1,5 +1,6 @@
 // The rows of a table: where they stand, their seven numbers, and how they are written.
 use crate::Card;
+use crate::ROW_WIDTH;
 use crate::Runoff;
 use crate::rounding::height;
 use crate::turning::Slopes;
@@ -13,9 +14,6 @@ ghost use Rattle.runoff.specs.Refusal.{refusal};
 ghost use Rattle.runoff.specs.Runoff.{runoffOf};
 ghost use Rattle.runoff.specs.Rows.{row, cells, rowCount, rowWidth, rows, stationOf};
 ghost use Rattle.runoff.specs.Reckoning.{sectionIn, Limits, Ready, innerSides, outerSides};
-
-// How many numbers a row has in a table.
-pub(crate) const ROW_WIDTH: usize = 7;
 
 // A row: the station in mm, the others in counts of the unit.
 pub(crate) struct Row {

@@ -13,6 +13,7 @@ use Rattle.book.specs.Book.{mostBytes}
 use Rattle.book.specs.Printed.{Each, IsName, IsBody, IsBook, Curve, digitsText, numberText, contentsText, contentsTexts, bodyText, bodyTexts, namesOf, bodiesOf, bookText}
 use Rattle.book.specs.LineMeaning.{Stands}
 use Rattle.book.specs.Meaning.{entries, curveIn, curvesIn}
+use Rattle.book.specs.Cards.{namePlaceIn}
 use Rattle.book.proofs.Places.{cond-case}
 use Rattle.book.proofs.Standing.{stands-front, stands-back}
 
@@ -124,7 +125,7 @@ module _ (curves : List Curve) where
 -- the curves of the list that a book fills
 pub curves-read : (text : List ℕ) (curves : List Curve) (at line end : ℕ) (rest : List ℕ) → Each IsBody (bodiesOf curves)
     → Stands text at (contentsTexts line (namesOf curves)) end → curvesIn (length curves) text (entries at line curves ++ rest) ≡ curves
-unfolding Each contentsTexts entries curvesIn curveIn
+unfolding Each contentsTexts entries curvesIn curveIn namePlaceIn
 curves-read text [] at line end rest eights s = refl
 curves-read text (curve ∷ curves) at line end rest eights s =
     let next : ℕ = at + length (contentsText (curve .name) line) in

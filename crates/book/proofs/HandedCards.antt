@@ -4,7 +4,7 @@ use Prim.Native.Nat.{ℕ, suc, _+_, _*_, _<_}
 use native.Mathlib.Omega.{arith}
 use native.Mathlib.Nat.{add-zero, zero-add}
 use mathlib.Core.Path.{_≡_, sym, ap, ap₂, _∙_}
-use mathlib.Core.List.{List, [], _∷_, _++_, append-assoc}
+use mathlib.Core.List.{List, [], _∷_, _++_, map, append-assoc}
 use lib.ListN.{length, getD, take, drop, List·getD-append}
 use lib.Seq.{drop-append-add, getD-drop}
 use lib.Dec.{lit<}
@@ -41,11 +41,12 @@ entries-numbers (first ∷ before) curve later at line rest bodies =
           ∙ found .whole;
     }
 
--- the curve itself has a body of eight numbers
-own-body : (before : List Curve) (curve : Curve) (later : List Curve) → Each IsBody (bodiesOf (before ++ (curve ∷ later))) → IsBody (curve .numbers)
+-- what holds of each curve's part, as its body or its name, holds of this curve's
+pub own-part : (P : List ℕ → Type 0) (part : Curve → List ℕ) (before : List Curve) (curve : Curve) (later : List Curve)
+    → Each P (map part (before ++ (curve ∷ later))) → P (part curve)
 unfolding Each
-own-body [] curve later bodies = bodies .0
-own-body (first ∷ before) curve later bodies = own-body before curve later (bodies .1)
+own-part P part [] curve later all = all .0
+own-part P part (first ∷ before) curve later all = own-part P part before curve later (all .1)
 
 -- eight numbers that stand in a list from a place on make the same card there as by themselves
 module _ (list : List ℕ) (at : ℕ) (numbers : List ℕ) (found : Starts (drop at list) numbers) (eight : length numbers ≡ cardNumbers) where
@@ -107,7 +108,7 @@ handed-cards before curve later list book room =
     record {
       card =
           ap (λ (l : List ℕ). cardIn l (length before)) stands
-          ∙ card-there _ _ (curve .numbers) found (own-body before curve later (book .bodies) .eight);
+          ∙ card-there _ _ (curve .numbers) found (own-part IsBody (λ (c : Curve). c .numbers) before curve later (book .bodies) .eight);
       name =
           ap (λ (l : List ℕ). nameIn (bookText curves) l (length before)) stands
           ∙ name-there before curve later (bookText curves) _ (meaning .given curves book rest);

@@ -5,7 +5,7 @@ pub mod Body
 pub mod Book
 pub mod Printed
 pub mod LineMeaning
+pub mod Cards
 pub mod Meaning
 pub mod Reasons
-pub mod Cards
 pub mod RampBook

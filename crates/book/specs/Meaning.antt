@@ -4,10 +4,11 @@
 use Prim.Native.Nat.{ℕ, zero, suc, _+_, _*_, _≤_}
 use mathlib.Core.Path.{_≡_}
 use mathlib.Core.List.{List, [], _∷_, _++_}
-use lib.ListN.{length, getD, take, drop}
+use lib.ListN.{length, take, drop}
 use Rattle.book.specs.Body.{cardNumbers}
 use Rattle.book.specs.Book.{leastList, mostBytes, curveWidth, acceptedOf, replyToBook, listAfter}
 use Rattle.book.specs.Printed.{Curve, IsBook, numberText, contentsText, bookText}
+use Rattle.book.specs.Cards.{nameIn}
 
 -- ten numbers a curve: the byte place of its name, its length, the eight numbers;
 -- the first contents line stands at this place and names this line
@@ -22,7 +23,7 @@ bookEntries curves = entries (length (numberText (length curves) 10)) (length cu
 
 -- the curve whose ten numbers stand first in a list: its name is read in the text
 unfoldable pub curveIn : List ℕ → List ℕ → Curve
-curveIn text list = record { name = take (getD list 1 0) (drop (getD list 0 0) text); numbers = take cardNumbers (drop 2 list) }
+curveIn text list = record { name = nameIn text list 0; numbers = take cardNumbers (drop 2 list) }
 
 -- the first n curves of a list
 unfoldable pub curvesIn : ℕ → List ℕ → List ℕ → List Curve

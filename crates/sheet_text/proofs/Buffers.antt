@@ -52,6 +52,10 @@ module _ (size room : ℕ) {w : Written} (e : w ≡ sized size room) where
   pub count-in : w .count ≤ room
   count-in = rw e (sized-in size room)
 
+  -- what fits is said to
+  pub fits-said : size ≤ room → w .fits ≡ true
+  fits-said h = ap (λ (v : Written). v .fits) (e ∙ sized-fits size room h)
+
   -- what is said not to fit does not
   pub over-of : w .fits ≡ false → room < size
   over-of t = leb-false size room (sym fits-is ∙ t)

@@ -20,7 +20,7 @@ use Rattle.book.proofs.RampReads.{ramp-book}
 use Rattle.sheet_text.specs.Decimal.{signedText}
 use Rattle.sheet_text.specs.Text.{rowText, rowsText, endedText, blank, refusedText, refusedBookText}
 use Rattle.sheet_text.specs.Sheet.{rowLines, cardSheet, curvesSheet, sheetOf}
-use Rattle.sheet_text.specs.RampSheet.{rampName, rampSheet, RampSheet}
+use Rattle.sheet_text.specs.RampSheet.{rampName, rampPrinted, RampSheet}
 use Rattle.sheet_text.proofs.SheetLaws.{lines-there}
 use Rattle.sheet_text.proofs.Sheets.{sheets}
 
@@ -29,7 +29,7 @@ row-lines : rowLines runoff.ramp 3 ≡ rowsText 3 (rows runoff.ramp ++ [])
 unfolding rows
 row-lines = sym (lines-there runoff.ramp 3 [])
 
-curve-sheet : curvesSheet (ramp ∷ []) ≡ rampSheet
+curve-sheet : curvesSheet (ramp ∷ []) ≡ rampPrinted
 unfolding profiles profileAt clothoids leastLength refusal digitsText cardFrom signedText rowText rowsText endedText cardSheet curvesSheet
 curve-sheet =
     ap (λ (t : List ℕ). (rampName ++ (endedText blank 3 ++ t)) ++ [])
@@ -48,9 +48,9 @@ is-book = record {
 pub ramp-prints : RampSheet
 unfolding digitsText endedText refusedText refusedBookText
 ramp-prints = record {
-  sheet =
+  sheet = λ tables long.
       let list : List ℕ = replicate leastList 0 in
-      ap (λ (t : List ℕ). sheetOf t list) (sym (ramp-book .text)) ∙ sheets .book (ramp ∷ []) list is-book (lit≤ tt) ∙ curve-sheet;
+      ap (λ (t : List ℕ). sheetOf t list tables) (sym (ramp-book .text)) ∙ sheets .book (ramp ∷ []) list tables is-book (lit≤ tt) long ∙ curve-sheet;
   card = refl;
   book = refl;
 }

@@ -6,11 +6,11 @@ use mathlib.Core.List.{List, [], _∷_, _++_}
 use native.Mathlib.Omega.{arith}
 use borrow.Author.Tests.{le-ltb, ne-eqb}
 use lib.IntN.{ℤ, pos, negsuc, negℤ, natAbs}
-use lib.ListN.{length, getD}
+use lib.ListN.{getD}
 use Rattle.book.specs.Number.{digitOf}
-use Rattle.book.specs.Printed.{digitsText}
+use Rattle.book.specs.Printed.{Each, digitsText}
 use Rattle.book.proofs.Digits.{digit-or, text-one, text-more, tenth-below}
-use Rattle.sheet_text.specs.Decimal.{mostDigits, countText, signedText, digitsValue, signedOf, DecimalTheorem}
+use Rattle.sheet_text.specs.Decimal.{mostDigits, countText, signedText, digitsValue, signedOf, IsDigit, DecimalTheorem}
 use Rattle.sheet_text.proofs.DecimalLaws.{size-some, size-short}
 
 -- the byte of a digit
@@ -61,15 +61,40 @@ unfolding signedOf signedText
 back (pos n) h = signed-plain (countText n) (text-first mostDigits n) ∙ ap pos (text-value mostDigits n h)
 back (negsuc n) h = ap (λ (m : ℕ). negℤ (pos m)) (text-value mostDigits (suc n) h)
 
-some : (z : ℤ) → 1 ≤ length (signedText z)
-unfolding signedText
-some (pos n) = size-some mostDigits n (omega arith)
-some (negsuc n) = omega arith
+-- a byte more at the end
+each-more : (text : List ℕ) (b : ℕ) → Each IsDigit text → IsDigit b → Each IsDigit (text ++ (b ∷ []))
+unfolding Each
+each-more [] b all one = (one, tt)
+each-more (first ∷ text) b all one = (all .0, each-more text b (all .1) one)
 
-short : (z : ℤ) → length (signedText z) ≤ mostDigits + 1
-unfolding signedText
-short (pos n) = omega (arith, size-short mostDigits n)
-short (negsuc n) = omega (arith, size-short mostDigits (suc n))
+text-digits : (k v : ℕ) → Each IsDigit (digitsText k v)
+unfolding digitsText Each
+text-digits zero v = tt
+text-digits (suc k) v =
+    digit-or v
+    (λ l. rw (text-one k v l) (rw (digit-is v l) l, tt))
+    (λ l. let d : v % 10 < 10 = omega arith in
+    rw (text-more k v l) (each-more (digitsText k (v / 10)) (48 + v % 10) (text-digits k (v / 10)) (rw (digit-is (v % 10) d) d)))
+
+-- the first digit stays the first where there is one
+first-kept : (text : List ℕ) (b : ℕ) → 49 ≤ getD text 0 48 → 49 ≤ getD (text ++ (b ∷ [])) 0 48
+first-kept [] b h = absurd (omega arith)
+first-kept (first ∷ text) b h = h
+
+text-leading : (k v : ℕ) → 1 ≤ v → v < 10 ^ k → 49 ≤ getD (digitsText k v) 0 48
+unfolding digitsText
+text-leading zero v some few = absurd (omega arith)
+text-leading (suc k) v some few =
+    digit-or v
+    (λ l. rw (text-one k v l) (omega arith))
+    (λ l. let more : 1 ≤ v / 10 = omega arith in
+    rw (text-more k v l) (first-kept (digitsText k (v / 10)) (48 + v % 10) (text-leading k (v / 10) more (tenth-below k v few))))
 
 pub read-back : DecimalTheorem
-read-back = record { back = back; some = some; short = short }
+read-back = record {
+  back = back;
+  digits = text-digits mostDigits;
+  some = λ v. size-some mostDigits v (omega arith);
+  most = size-short mostDigits;
+  leading = text-leading mostDigits;
+}

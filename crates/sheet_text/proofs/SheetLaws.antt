@@ -4,18 +4,17 @@ use Prim.Native.Nat.{ℕ, zero, suc, _+_, _*_, _≤_}
 use mathlib.Core.Path.{_≡_, refl, sym, ap, ap₂, _∙_}
 use mathlib.Core.List.{List, [], _∷_, _++_, append-assoc, append-nil}
 use native.Mathlib.Omega.{arith}
-use lib.IntN.{ℤ}
+use lib.IntN.{ℤ, pos, negsuc}
 use lib.ListN.{length, take, drop, length-append}
 use lib.Seq.{take-at, drop-at, drop-drop}
 use Rattle.runoff.specs.declared.Card.{Card}
 use Rattle.runoff.specs.Rows.{cells, rowOf, stationOf, rowWidth, joined}
 use Rattle.runoff.proofs.Joined.{length-joined}
 use Rattle.runoff.proofs.RowBlocks.{firstRows}
-use Rattle.sheet_text.specs.Decimal.{mostDigits}
+use Rattle.sheet_text.specs.Decimal.{mostDigits, signedText}
 use Rattle.sheet_text.specs.Text.{rowText, rowsText, endedText}
 use Rattle.sheet_text.specs.Sheet.{rowLines}
 use Rattle.sheet_text.proofs.DecimalLaws.{size-short}
-use Rattle.sheet_text.proofs.ReadBack.{read-back}
 use Rattle.sheet_text.proofs.Buffers.{ended-length}
 
 -- ---- the lines of rows that are joined from the left, as they are printed from the front
@@ -55,11 +54,17 @@ module _ (card : Card) where
 pub ended-short : (word : List ℕ) (v : ℕ) → length (endedText word v) ≤ length word + (mostDigits + 1)
 ended-short word v = omega (arith, ended-length word v, size-short mostDigits v)
 
+-- ten digits and a minus
+signed-short : (z : ℤ) → length (signedText z) ≤ mostDigits + 1
+unfolding signedText
+signed-short (pos n) = omega (arith, size-short mostDigits n)
+signed-short (negsuc n) = omega (arith, size-short mostDigits (suc n))
+
 -- twelve bytes a number: eleven, and the byte that ends it
 row-short : (row : List ℤ) → length (rowText row) ≤ 12 * length row
 unfolding rowText
 row-short [] = omega arith
-row-short (z ∷ row) = simp length-append (omega (arith, read-back .short z, row-short row))
+row-short (z ∷ row) = simp length-append (omega (arith, signed-short z, row-short row))
 
 pub lines-short : (card : Card) (k : ℕ) → length (rowLines card k) ≤ 84 * k
 unfolding rowLines

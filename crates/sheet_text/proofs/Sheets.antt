@@ -1,8 +1,8 @@
 -- The sheet of a book: what the calls give for each of its curves, that no curve needs more bytes than stated, and the whole sheet.
 -- Assumes nothing.
-use Prim.Native.Nat.{ℕ, _*_, _≤_}
-use mathlib.Core.Path.{_≡_, refl, sym, ap, ap₂, _∙_}
-use mathlib.Core.List.{List, [], _++_, append-nil}
+use Prim.Native.Nat.{ℕ, zero, suc, _*_, _≤_, _<_}
+use mathlib.Core.Path.{_≡_, refl, sym, ap, ap₂, _∙_, subst}
+use mathlib.Core.List.{List, [], _∷_, _++_, append-nil, append-assoc}
 use native.Mathlib.Omega.{arith}
 use lib.Dec.{eqb}
 use lib.IntN.{ℤ}
@@ -16,16 +16,15 @@ use Rattle.runoff.proofs.Accepts.{accepted-rule}
 use Rattle.runoff.proofs.Replies.{refused, filled}
 use Rattle.runoff.proofs.RowBlocks.{all-rows, length-rows}
 use Rattle.book.specs.declared.BookReply.{BookReply}
-use Rattle.book.specs.Book.{leastList, curveWidth, replyToBook, listAfter}
-use Rattle.book.specs.Printed.{Curve, IsBook, bookText}
-use Rattle.book.specs.Meaning.{curvesIn}
+use Rattle.book.specs.Book.{leastList, replyToBook, listAfter}
+use Rattle.book.specs.Printed.{Curve, IsName, IsBook, bookText}
 use Rattle.book.proofs.Places.{cond-case}
 use Rattle.book.proofs.BookMeaning.{meaning}
 use Rattle.book.proofs.BookReasons.{reasons}
-use Rattle.book.proofs.HandedCards.{handed-cards}
+use Rattle.book.proofs.HandedCards.{handed-cards, own-part}
 use Rattle.sheet_text.specs.Decimal.{mostDigits}
 use Rattle.sheet_text.specs.Text.{blank, refusedWord, lineWord, heldRows, endedText, acceptedText, refusedText, refusedBookText, curveText, bookLine}
-use Rattle.sheet_text.specs.Sheet.{rowLines, cardSheet, curvesSheet, enoughNumbers, enoughBytes, sheetOf, SheetTheorem}
+use Rattle.sheet_text.specs.Sheet.{rowLines, cardSheet, curveSheet, curvesSheet, enoughNumbers, enoughBytes, partOf, partsOf, sheetOf, SheetTheorem}
 use Rattle.sheet_text.proofs.DecimalLaws.{size-short}
 use Rattle.sheet_text.proofs.SheetLaws.{lines-there, ended-short, lines-short}
 
@@ -81,30 +80,119 @@ line-short reply =
     (λ t. omega arith)
     (λ t. simp length-append (omega (arith, size-short mostDigits (reply .number), ended-short lineWord (reply .line))))
 
-book-sheet : (curves : List Curve) (list : List ℕ) → IsBook curves → leastList ≤ length list → sheetOf (bookText curves) list ≡ curvesSheet curves
-unfolding sheetOf
-book-sheet curves list book room =
-    let both = meaning .accepted curves book list room in
-    ap (λ (r : BookReply). bookLine r ++ curvesSheet (curvesIn (r .count) (bookText curves) (listAfter (bookText curves) list))) (both .0)
-    ∙ ap (λ (l : List ℕ). curvesSheet (curvesIn (length curves) (bookText curves) l)) (both .1)
-    ∙ ap curvesSheet (meaning .given curves book (drop (curveWidth * length curves) list))
+-- each curve that stands in a book, by the calls
+part-sheet : (before : List Curve) (curve : Curve) (later : List Curve) (list : List ℕ) (table : List ℤ)
+    → IsBook (before ++ (curve ∷ later)) → leastList ≤ length list → enoughNumbers ≤ length table
+    → partOf (bookText (before ++ (curve ∷ later))) (listAfter (bookText (before ++ (curve ∷ later))) list) (length before) table ≡ curveSheet curve
+part-sheet before curve later list table book room long =
+    let hands = handed-cards before curve later list book room in
+    given-sheet _ _ table long ∙ ap₂ cardSheet (hands .name) (hands .card)
 
-refused-sheet : (text list : List ℕ) → ((replyToBook text (length list)) .number ≡ 0 → ⊥)
-    → sheetOf text list ≡ bookLine (replyToBook text (length list))
-unfolding sheetOf curvesSheet curvesIn
-refused-sheet text list ne =
+-- one curve more at the end
+sheet-more : (before : List Curve) (curve : Curve) → curvesSheet (before ++ (curve ∷ [])) ≡ curvesSheet before ++ curveSheet curve
+unfolding curvesSheet
+sheet-more [] curve = append-nil (curveSheet curve)
+sheet-more (first ∷ before) curve =
+    ap (λ (t : List ℕ). curveSheet first ++ t) (sheet-more before curve) ∙ sym (append-assoc (curveSheet first) (curvesSheet before) (curveSheet curve))
+
+module _ (list : List ℕ) (tables : ℕ → List ℤ) (room : leastList ≤ length list) (long : (k : ℕ) → enoughNumbers ≤ length (tables k)) where
+  abbrev parts : List Curve → ℕ → List ℕ
+  parts curves = partsOf (bookText curves) (listAfter (bookText curves) list) tables
+
+  -- one curve more
+  next-part : (before : List Curve) (curve : Curve) (later curves : List Curve) → curves ≡ before ++ (curve ∷ later) → IsBook curves
+      → parts curves (length before) ≡ curvesSheet before → parts curves (length (before ++ (curve ∷ []))) ≡ curvesSheet (before ++ (curve ∷ []))
+  unfolding partsOf
+  next-part before curve later curves e book so-far =
+      let table : List ℤ = tables (length before) in
+      let one : length (before ++ (curve ∷ [])) ≡ suc (length before) = omega (arith, length-append before (curve ∷ [])) in
+      let here : partOf (bookText curves) (listAfter (bookText curves) list) (length before) table ≡ curveSheet curve =
+      subst (λ (l : List Curve). IsBook l → partOf (bookText l) (listAfter (bookText l) list) (length before) table ≡ curveSheet curve) (sym e)
+      (λ b. part-sheet before curve later list table b room (long (length before))) book in
+      ap (parts curves) one ∙ ap₂ (λ (t u : List ℕ). t ++ u) so-far here ∙ sym (sheet-more before curve)
+
+  -- the curves up to a place of a book, and then the others one by one
+  parts-sheet : (before later curves : List Curve) → curves ≡ before ++ later → IsBook curves → parts curves (length before) ≡ curvesSheet before
+      → parts curves (length curves) ≡ curvesSheet curves
+  parts-sheet before [] curves e book so-far =
+      let all : curves ≡ before = e ∙ append-nil before in
+      ap (λ (l : List Curve). parts curves (length l)) all ∙ so-far ∙ ap curvesSheet (sym all)
+  parts-sheet before (curve ∷ later) curves e book so-far =
+      parts-sheet (before ++ (curve ∷ [])) later curves (e ∙ sym (append-assoc before (curve ∷ []) later)) book
+      (next-part before curve later curves e book so-far)
+
+book-sheet : (curves : List Curve) (list : List ℕ) (tables : ℕ → List ℤ) → IsBook curves → leastList ≤ length list
+    → ((k : ℕ) → enoughNumbers ≤ length (tables k)) → sheetOf (bookText curves) list tables ≡ curvesSheet curves
+unfolding sheetOf partsOf curvesSheet
+book-sheet curves list tables book room long =
+    ap (λ (r : BookReply). bookLine r ++ parts list tables room long curves (r .count)) (meaning .accepted curves book list room .0)
+    ∙ parts-sheet list tables room long [] curves curves refl book refl
+
+refused-sheet : (text list : List ℕ) (tables : ℕ → List ℤ) → ((replyToBook text (length list)) .number ≡ 0 → ⊥)
+    → sheetOf text list tables ≡ bookLine (replyToBook text (length list))
+unfolding sheetOf partsOf
+refused-sheet text list tables ne =
     let line : List ℕ = bookLine (replyToBook text (length list)) in
-    ap (λ (n : ℕ). line ++ curvesSheet (curvesIn n text (listAfter text list))) (reasons .nought text (length list) ne)
+    ap (λ (n : ℕ). line ++ partsOf text (listAfter text list) tables n) (reasons .nought text (length list) ne)
     ∙ append-nil line
+
+-- ---- how long the text of a curve is, whatever text is read
+-- the curve at a place, counted from 0
+record Placed (curves : List Curve) (i : ℕ) : Type 0 where
+  before : List Curve
+  curve : Curve
+  later : List Curve
+  same : curves ≡ before ++ (curve ∷ later)
+  place : length before ≡ i
+
+placed : (curves : List Curve) (i : ℕ) → i < length curves → Placed curves i
+placed [] i h = absurd (omega arith)
+placed (first ∷ curves) zero h = record { before = []; curve = first; later = curves; same = refl; place = refl }
+placed (first ∷ curves) (suc i) h =
+    let p = placed curves i (omega arith) in
+    record {
+      before = first ∷ p .before;
+      curve = p .curve;
+      later = p .later;
+      same = ap (λ (l : List Curve). first ∷ l) (p .same);
+      place = ap suc (p .place);
+    }
+
+module _ (list : List ℕ) (table : List ℤ) (long : enoughNumbers ≤ length table) where
+  abbrev partIn : List ℕ → ℕ → List ℕ
+  partIn text i = partOf text (listAfter text list) i table
+
+  book-fits : (curves : List Curve) → IsBook curves → leastList ≤ length list → (i : ℕ) → i < length curves
+      → length (partIn (bookText curves) i) ≤ enoughBytes
+  book-fits curves book room i h =
+      let p = placed curves i h in
+      let is = subst IsBook (p .same) book in
+      let name = own-part IsName (λ (c : Curve). c .name) (p .before) (p .curve) (p .later) (is .names) in
+      let here = part-sheet (p .before) (p .curve) (p .later) list table is room long in
+      let short = subst (λ (t : List ℕ). length t ≤ enoughBytes) (sym here) (sheet-short _ _ (name .short)) in
+      subst (λ (l : List Curve). length (partIn (bookText l) i) ≤ enoughBytes) (sym (p .same))
+      (subst (λ (k : ℕ). length (partIn (bookText (p .before ++ (p .curve ∷ p .later))) k) ≤ enoughBytes) (p .place) short)
+
+  -- a reply that counts a curve is that to a book
+  text-fits : (text : List ℕ) (i : ℕ) → i < (replyToBook text (length list)) .count → length (partIn text i) ≤ enoughBytes
+  text-fits text i h =
+      let reply = replyToBook text (length list) in
+      let accepted : reply .number ≡ 0 =
+      cond-case (λ (u : Unit {0}). reply .number ≡ 0) (eqb (reply .number) 0) tt tt (λ t. eqb-true _ _ t)
+      (λ t. absurd (omega (arith, reasons .nought text (length list) (eqb-false _ _ t)))) in
+      let room = meaning .only text list accepted .0 in
+      let found = meaning .only text list accepted .1 in
+      let curves = found .curves in
+      let count = ap (λ (r : BookReply). r .count) (meaning .accepted curves (found .book) list room .0) in
+      subst (λ (t : List ℕ). i < (replyToBook t (length list)) .count → length (partIn t i) ≤ enoughBytes) (sym (found .same))
+      (λ l. book-fits curves (found .book) room i (omega (arith, count, l))) h
 
 pub sheets : SheetTheorem
 sheets = record {
   curve = given-sheet;
-  part = λ before curve later list table book room long.
-      let hands = handed-cards before curve later list book room in
-      given-sheet _ _ table long ∙ ap₂ cardSheet (hands .name) (hands .card);
-  room = λ name card is. sheet-short name card (is .short);
-  line = line-short;
+  part = part-sheet;
   book = book-sheet;
   refused = refused-sheet;
+  fits = λ text list curve table counted long. text-fits list table long text curve counted;
+  line = line-short;
 }

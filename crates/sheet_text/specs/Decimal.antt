@@ -6,9 +6,9 @@ use mathlib.Core.List.{List, [], _∷_}
 use mathlib.Core.Bool.{cond}
 use lib.Dec.{eqb}
 use lib.IntN.{ℤ, pos, negsuc, negℤ, natAbs}
-use lib.ListN.{length}
+use lib.ListN.{length, getD}
 use Rattle.book.specs.Number.{digitOf}
-use Rattle.book.specs.Printed.{digitsText}
+use Rattle.book.specs.Printed.{Each, digitsText}
 
 -- a number of 32 bits, signed or not, has at most ten digits
 abbrev pub mostDigits : ℕ
@@ -33,10 +33,16 @@ unfoldable pub signedOf : List ℕ → ℤ
 signedOf [] = pos 0
 signedOf (b ∷ text) = cond (eqb b 45) (negℤ (pos (digitsValue 0 text))) (pos (digitsValue 0 (b ∷ text)))
 
--- THEOREM (proofs/ReadBack.antt): for every number of at most ten digits
+-- a decimal digit, bytes 48 to 57
+abbrev pub IsDigit : ℕ → Type 0
+IsDigit b = digitOf b < 10
+
+-- THEOREM (proofs/ReadBack.antt):
 pub record DecimalTheorem : Type 0 where
-  -- reading its text gives the number back
+  -- reading the text of a number of at most ten digits gives the number back
   pub back : (z : ℤ) → natAbs z < 10 ^ mostDigits → signedOf (signedText z) ≡ z
-  -- its text has one to ten digits, and a minus at most
-  pub some : (z : ℤ) → 1 ≤ length (signedText z)
-  pub short : (z : ℤ) → length (signedText z) ≤ mostDigits + 1
+  -- the text of a count has digits only, one to ten of them, and the first is not 0 but in 0 itself
+  pub digits : (v : ℕ) → Each IsDigit (countText v)
+  pub some : (v : ℕ) → 1 ≤ length (countText v)
+  pub most : (v : ℕ) → length (countText v) ≤ mostDigits
+  pub leading : (v : ℕ) → 1 ≤ v → v < 10 ^ mostDigits → 49 ≤ getD (countText v) 0 48

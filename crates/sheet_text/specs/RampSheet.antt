@@ -1,13 +1,14 @@
 -- Document 01's own sheet, and its two refusals, byte for byte.
 -- Assumes nothing.
-use Prim.Native.Nat.{ℕ}
+use Prim.Native.Nat.{ℕ, _≤_}
 use mathlib.Core.Path.{_≡_}
 use mathlib.Core.List.{List, [], _∷_, _++_}
-use lib.ListN.{replicate}
+use lib.IntN.{ℤ}
+use lib.ListN.{length, replicate}
 use Rattle.book.specs.Book.{leastList}
 use Rattle.book.specs.RampBook.{rampText}
 use Rattle.sheet_text.specs.Text.{refusedText, refusedBookText}
-use Rattle.sheet_text.specs.Sheet.{sheetOf}
+use Rattle.sheet_text.specs.Sheet.{enoughNumbers, sheetOf}
 
 -- RAMP
 abbrev pub rampName : List ℕ
@@ -17,8 +18,8 @@ rampName = 82 ∷ 65 ∷ 77 ∷ 80 ∷ []
 -- 0 0 0 105 172 105 52
 -- 20000 400 12 93 172 240 292
 -- 30000 600 -68 1 172 307 412
-abbrev pub rampSheet : List ℕ
-rampSheet =
+abbrev pub rampPrinted : List ℕ
+rampPrinted =
     (82 ∷ 65 ∷ 77 ∷ 80 ∷ 32 ∷ 51 ∷ 10 ∷ [])
     ++ ((48 ∷ 32 ∷ 48 ∷ 32 ∷ 48 ∷ 32 ∷ 49 ∷ 48 ∷ 53 ∷ 32 ∷ 49 ∷ 55 ∷ 50 ∷ 32 ∷ 49 ∷ 48 ∷ 53 ∷ 32 ∷ 53 ∷ 50 ∷ 10 ∷ [])
     ++ ((50 ∷ 48 ∷ 48 ∷ 48 ∷ 48 ∷ 32 ∷ 52 ∷ 48 ∷ 48 ∷ 32 ∷ 49 ∷ 50 ∷ 32 ∷ 57 ∷ 51 ∷ 32 ∷ 49 ∷ 55 ∷ 50 ∷ 32 ∷ 50 ∷ 52 ∷ 48 ∷ 32 ∷ 50 ∷ 57 ∷ 50 ∷ 10 ∷ [])
@@ -26,8 +27,8 @@ rampSheet =
 
 -- THEOREM (proofs/RampPrints.antt):
 pub record RampSheet : Type 0 where
-  -- the sheet of RAMP's book, read into a list of 640 noughts
-  pub sheet : sheetOf rampText (replicate leastList 0) ≡ rampSheet
+  -- the sheet of RAMP's book, read into a list of 640 noughts, whatever tables that are long enough are lent
+  pub sheet : (tables : ℕ → List ℤ) → ((k : ℕ) → enoughNumbers ≤ length (tables k)) → sheetOf rampText (replicate leastList 0) tables ≡ rampPrinted
   -- RAMP refused 8
   pub card : refusedText rampName 8 ≡ 82 ∷ 65 ∷ 77 ∷ 80 ∷ 32 ∷ 114 ∷ 101 ∷ 102 ∷ 117 ∷ 115 ∷ 101 ∷ 100 ∷ 32 ∷ 56 ∷ 10 ∷ []
   -- book 24 line 2

@@ -1,6 +1,6 @@
 -- Document 01, the sheet printer: the sheet of a book, "curves in book order, from a table long enough for every card".
 -- Assumes nothing.
-use Prim.Native.Nat.{ℕ, zero, suc, _≤_}
+use Prim.Native.Nat.{ℕ, zero, suc, _≤_, _<_}
 use mathlib.Core.Bool.{cond}
 use mathlib.Core.Path.{_≡_}
 use mathlib.Core.List.{List, [], _∷_, _++_}
@@ -13,8 +13,7 @@ use Rattle.runoff.specs.Refusal.{refusal}
 use Rattle.runoff.specs.Table.{replyTo, tableAfter}
 use Rattle.book.specs.declared.BookReply.{BookReply}
 use Rattle.book.specs.Book.{leastList, replyToBook, listAfter}
-use Rattle.book.specs.Printed.{Curve, IsName, IsBook, bookText}
-use Rattle.book.specs.Meaning.{curvesIn}
+use Rattle.book.specs.Printed.{Curve, IsBook, bookText}
 use Rattle.book.specs.Cards.{cardOf, cardIn, nameIn}
 use Rattle.sheet_text.specs.Text.{rowText, endedText, blank, curveText, refusedText, bookLine}
 
@@ -45,17 +44,22 @@ enoughNumbers = 2107
 abbrev pub enoughBytes : ℕ
 enoughBytes = 25304
 
--- the whole sheet of a text, read into a lent list: the book's own line, and then its curves
-unfoldable pub sheetOf : List ℕ → List ℕ → List ℕ
-sheetOf text list =
-    bookLine (replyToBook text (length list))
-    ++ curvesSheet (curvesIn ((replyToBook text (length list)) .count) text (listAfter text list))
-
 -- what the calls give for a curve of a list, counted from 0: its card is handed to the table call, and its name, the reply and the rows
 -- become text
 abbrev pub partOf : List ℕ → List ℕ → ℕ → List ℤ → List ℕ
 partOf text list curve table =
     curveText (nameIn text list curve) (replyTo (cardIn list curve) (length table)) (tableAfter (cardIn list curve) table)
+
+-- for its first k curves, in order, each with the table that is lent for it
+unfoldable pub partsOf : List ℕ → List ℕ → (ℕ → List ℤ) → ℕ → List ℕ
+partsOf text list tables zero = []
+partsOf text list tables (suc k) = partsOf text list tables k ++ partOf text list k (tables k)
+
+-- the whole sheet of a text that is read into a lent list: the book's own line, and what the calls give for each curve that the book counts
+unfoldable pub sheetOf : List ℕ → List ℕ → (ℕ → List ℤ) → List ℕ
+sheetOf text list tables =
+    bookLine (replyToBook text (length list))
+    ++ partsOf text (listAfter text list) tables ((replyToBook text (length list)) .count)
 
 -- THEOREM (proofs/Sheets.antt):
 pub record SheetTheorem : Type 0 where
@@ -66,12 +70,13 @@ pub record SheetTheorem : Type 0 where
   pub part : (before : List Curve) (curve : Curve) (later : List Curve) (list : List ℕ) (table : List ℤ)
       → IsBook (before ++ (curve ∷ later)) → leastList ≤ length list → enoughNumbers ≤ length table
       → partOf (bookText (before ++ (curve ∷ later))) (listAfter (bookText (before ++ (curve ∷ later))) list) (length before) table ≡ curveSheet curve
-  -- no curve of a book needs more than 25304 bytes, nor does the line of any reply to a book
-  pub room : (name : List ℕ) (card : Card) → IsName name → length (cardSheet name card) ≤ enoughBytes
-  pub line : (reply : BookReply) → length (bookLine reply) ≤ enoughBytes
-  -- the sheet of a book is that of its curves, in order
-  pub book : (curves : List Curve) (list : List ℕ) → IsBook curves → leastList ≤ length list
-      → sheetOf (bookText curves) list ≡ curvesSheet curves
+  -- and the whole sheet of a book is that of its curves, in book order
+  pub book : (curves : List Curve) (list : List ℕ) (tables : ℕ → List ℤ) → IsBook curves → leastList ≤ length list
+      → ((k : ℕ) → enoughNumbers ≤ length (tables k)) → sheetOf (bookText curves) list tables ≡ curvesSheet curves
   -- the sheet of a refused book is its one line
-  pub refused : (text list : List ℕ) → ((replyToBook text (length list)) .number ≡ 0 → ⊥)
-      → sheetOf text list ≡ bookLine (replyToBook text (length list))
+  pub refused : (text list : List ℕ) (tables : ℕ → List ℤ) → ((replyToBook text (length list)) .number ≡ 0 → ⊥)
+      → sheetOf text list tables ≡ bookLine (replyToBook text (length list))
+  -- no curve that a book counts needs more than 25304 bytes, nor does the line of any reply to a book
+  pub fits : (text list : List ℕ) (curve : ℕ) (table : List ℤ) → curve < (replyToBook text (length list)) .count
+      → enoughNumbers ≤ length table → length (partOf text (listAfter text list) curve table) ≤ enoughBytes
+  pub line : (reply : BookReply) → length (bookLine reply) ≤ enoughBytes

@@ -39,7 +39,7 @@ pub(crate) fn write_count(v: u32, buffer: &mut [u8], at: usize) -> usize
 }
 
 // The size of a number, without its sign.
-fn size_of(z: i32) -> u32
+fn magnitude(z: i32) -> u32
     ensures { λ r. ⌜ r ≡ natAbs z ⌝ }
 {
     let wide = z as i64;
@@ -55,7 +55,7 @@ pub(crate) fn signed_size(z: i32) -> usize
     ensures { λ r. ⌜ r ≡ length (signedText z) ⌝ }
     ensures { λ r. ⌜ r ≤ mostDigits + 1 ⌝ }
 {
-    let digits = digit_count(size_of(z));
+    let digits = digit_count(magnitude(z));
     if z < 0 { digits + 1 } else { digits }
 }
 
@@ -65,7 +65,7 @@ pub(crate) fn write_signed(z: i32, buffer: &mut [u8], at: usize) -> usize
     ensures { λ r. ⌜ r ≡ at + length (signedText z) ⌝ }
     ensures { λ _. ⌜ now (buffer .exit) ≡ sets (now (buffer .entry)) at (signedText z) ⌝ }
 {
-    let size = size_of(z);
+    let size = magnitude(z);
     if z < 0 {
         buffer[at] = b'-';
         return write_count(size, buffer, at + 1);

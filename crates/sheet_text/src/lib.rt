@@ -9,10 +9,10 @@ use crate::line::ended_size;
 use crate::line::more_bytes;
 use crate::line::write_bytes;
 use crate::line::write_ended;
-use crate::rows::ROW_WIDTH;
 use crate::rows::rows_size;
 use crate::rows::write_rows;
 use book::BookReply;
+use runoff::ROW_WIDTH;
 use runoff::Reply;
 ghost use mathlib.Core.Path.{_≡_};
 ghost use Prim.Native.Nat.{ℕ, min, _+_, _≤_};
@@ -22,6 +22,11 @@ ghost use Rattle.sheet_text.specs.Decimal.{countText};
 ghost use Rattle.sheet_text.specs.Buffer.{sized, writtenOf, bufferAfter};
 ghost use Rattle.sheet_text.specs.Text.{acceptedText, refusedText, curveText, bookLine};
 
+// A table of so many numbers is long enough for every card, and a buffer of so many bytes for the text of every curve of a book.
+pub const ENOUGH_NUMBERS: usize = 2107;
+
+pub const ENOUGH_BYTES: usize = 25304;
+
 // What a lent buffer is answered: whether the text fits, and the count of its bytes, which is 0 where it does not.
 pub struct Written {
     pub fits: bool,
@@ -29,7 +34,7 @@ pub struct Written {
 }
 
 // The smaller of two.
-fn least(a: usize, b: usize) -> usize
+fn smaller(a: usize, b: usize) -> usize
     ensures { λ r. ⌜ r ≡ min a b ⌝ }
 {
     if a < b { a } else { b }
@@ -60,8 +65,8 @@ pub fn curve_text(
     let name = book::name_of_curve(list, curve);
     let place = name.place as usize;
     let size = name.size as usize;
-    let start = least(place, text.len());
-    let end = start + least(size, text.len() - start);
+    let start = smaller(place, text.len());
+    let end = start + smaller(size, text.len() - start);
     let number = reply.number;
     let count = reply.count;
     if number == 0 {
@@ -71,13 +76,13 @@ pub fn curve_text(
     }
 }
 
-// How many bytes a name and the end of its line have.
-fn heading_size(name: usize, word: usize, v: u32, room: usize) -> Written
+// How many bytes a line has that begins with so many and ends with a word, a count and byte 10.
+fn heading_size(front: usize, word: usize, v: u32, room: usize) -> Written
     requires { ⌜ word ≤ 9 ⌝ }
-    ensures { λ r. ⌜ r ≡ sized (name + (word + length (countText v) + 1)) room ⌝ }
+    ensures { λ r. ⌜ r ≡ sized (front + (word + length (countText v) + 1)) room ⌝ }
 {
     more_bytes(
-        more_bytes(no_bytes(), name, room),
+        more_bytes(no_bytes(), front, room),
         ended_size(word, v),
         room,
     )
@@ -89,7 +94,7 @@ fn accepted_text(name: &[u8], count: u32, table: &[i32], buffer: &mut [u8]) -> W
     ensures { λ _. ⌜ now (buffer .exit) ≡ bufferAfter (acceptedText (now (name .entry)) count (now (table .entry))) (now (buffer .entry)) ⌝ }
 {
     let room = buffer.len();
-    let rows = least(count as usize, table.len() / ROW_WIDTH);
+    let rows = smaller(count as usize, table.len() / ROW_WIDTH);
     let heading = heading_size(name.len(), 1, count, room);
     let written = rows_size(table, rows, heading, room);
     let fits = written.fits;

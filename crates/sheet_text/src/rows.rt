@@ -3,6 +3,7 @@ use crate::Written;
 use crate::decimal::signed_size;
 use crate::decimal::write_signed;
 use crate::line::more_bytes;
+use runoff::ROW_WIDTH;
 ghost use mathlib.Core.Path.{_≡_};
 ghost use Prim.Native.Nat.{_+_, _*_, _≤_};
 ghost use lib.ListN.{length};
@@ -10,9 +11,6 @@ ghost use lib.Seq.{sets};
 ghost use Rattle.runoff.specs.Rows.{rowWidth};
 ghost use Rattle.sheet_text.specs.Buffer.{Measures};
 ghost use Rattle.sheet_text.specs.Text.{rowText, rowsText};
-
-// How many numbers a row has in a table.
-pub(crate) const ROW_WIDTH: usize = 7;
 
 // How many bytes the line of a row has.
 fn row_size(row: &[i32]) -> usize

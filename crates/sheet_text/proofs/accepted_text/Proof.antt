@@ -29,11 +29,11 @@ text-length s =
     omega (arith, length-append (s .args .name .now) (ended ++ rows s), length-append ended (rows s))
 
 -- the rows that are written are those that the table holds
-held : (c : tie.After-least) → rowsText (c .least .result) (c .before .before .before .args .table .now) ≡ rows (c .before .before .before)
-held c = ap (λ (k : ℕ). rowsText k (c .before .before .before .args .table .now)) (c .least .ensures)
+held : (c : tie.After-smaller) → rowsText (c .smaller .result) (c .before .before .before .args .table .now) ≡ rows (c .before .before .before)
+held c = ap (λ (k : ℕ). rowsText k (c .before .before .before .args .table .now)) (c .smaller .ensures)
 
-rows-in : (c : tie.After-least) → rowWidth * c .least .result ≤ length (c .before .before .before .args .table .now)
-rows-in c = omega (arith, c .least .ensures)
+rows-in : (c : tie.After-smaller) → rowWidth * c .smaller .result ≤ length (c .before .before .before .args .table .now)
+rows-in c = omega (arith, c .smaller .ensures)
 
 -- the whole text is measured
 measured : (c : tie.After-rows-size)
@@ -48,8 +48,8 @@ room : (c : tie.Then1)
     → length (text (c .before .before .before .before .before .before)) ≤ length (buffer (c .before .before .before .before .before .before))
 room c = fits-of _ _ (measured (c .before)) (c .if1 .taken)
 
-least-requires : tie.Need-least-requires
-least-requires c κs = search needs
+smaller-requires : tie.Need-smaller-requires
+smaller-requires c κs = search needs
 
 heading-size-requires : tie.Need-heading-size-requires
 heading-size-requires c κs = search needs
@@ -104,7 +104,7 @@ pub accepted-text-spec : {M : Type 1} → statement M
 accepted-text-spec =
     tie.close
     (tie.spec
-    least-requires
+    smaller-requires
     heading-size-requires
     rows-size-requires
     write-bytes-requires

@@ -10,17 +10,17 @@ use Rattle.sheet_text.proofs.Parts.{part-cut}
 use Rattle.sheet_text.proofs.curve_text.Statement.{statement}
 use Rattle.sheet_text.proofs.curve_text.Tie as tie
 
-abbrev start : tie.After-least2 → tie.Start
+abbrev start : tie.After-smaller2 → tie.Start
 start c = c .before .before .before .before .before .before .before .before
 
 -- the part that is handed on is the curve's name
-name-is : (c : tie.After-least2)
-    → take (c .before .least .result + c .least2 .result - c .before .least .result) (drop (c .before .least .result) (start c .args .text .now))
+name-is : (c : tie.After-smaller2)
+    → take (c .before .smaller .result + c .smaller2 .result - c .before .smaller .result) (drop (c .before .smaller .result) (start c .args .text .now))
     ≡ nameIn (start c .args .text .now) (start c .args .list .now) (start c .args .curve)
 name-is c =
     let text = start c .args .text .now in
     let n = c .before .before .before .before .name-of-curve in
-    part-cut text (n .result .place) (n .result .size) _ _ (c .before .least .ensures) (c .least2 .ensures)
+    part-cut text (n .result .place) (n .result .size) _ _ (c .before .smaller .ensures) (c .smaller2 .ensures)
     ∙ ap (nameBytes text) (n .ensures)
 
 name-of-curve-requires : tie.Need-name-of-curve-requires
@@ -32,14 +32,14 @@ cast-place c = search needs
 cast-size : tie.Need-cast-size
 cast-size c = search needs
 
-least-requires : tie.Need-least-requires
-least-requires c κs = search needs
+smaller-requires : tie.Need-smaller-requires
+smaller-requires c κs = search needs
 
-sub-least : tie.Need-sub-least
-sub-least c = search needs
+sub-smaller : tie.Need-sub-smaller
+sub-smaller c = search needs
 
-least-requires-2 : tie.Need-least-requires-2
-least-requires-2 c κs = search needs
+smaller-requires-2 : tie.Need-smaller-requires-2
+smaller-requires-2 c κs = search needs
 
 add-end : tie.Need-add-end
 add-end c = search needs
@@ -91,9 +91,9 @@ curve-text-spec =
     name-of-curve-requires
     cast-place
     cast-size
-    least-requires
-    sub-least
-    least-requires-2
+    smaller-requires
+    sub-smaller
+    smaller-requires-2
     add-end
     sub-accepted-text
     part-accepted-text-start

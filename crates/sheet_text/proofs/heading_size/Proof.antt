@@ -25,7 +25,7 @@ returns : tie.Need-returns
 returns c =
     let a = c .before .before .before .before .args in
     let named = c .before .before .more-bytes .ensures .1 0 (c .before .before .before .no-bytes .ensures (a .room)) in
-    let whole = c .more-bytes2 .ensures .1 (0 + a .name) named in
+    let whole = c .more-bytes2 .ensures .1 (0 + a .front) named in
     whole ∙ ap (λ (n : ℕ). sized n (a .room)) (omega (arith, c .before .ended-size .ensures))
 
 pub heading-size-spec : {M : Type 1} → statement M

@@ -9,8 +9,8 @@ use Rattle.sheet_text.proofs.DecimalLaws.{text-below, text-above}
 use Rattle.sheet_text.proofs.decimal.signed_size.Statement.{statement}
 use Rattle.sheet_text.proofs.decimal.signed_size.Tie as tie
 
-size-of-requires : tie.Need-size-of-requires
-size-of-requires c κs = search needs
+magnitude-requires : tie.Need-magnitude-requires
+magnitude-requires c κs = search needs
 
 digit-count-requires : tie.Need-digit-count-requires
 digit-count-requires c κs = search needs
@@ -21,13 +21,13 @@ add-result c = search needs
 returns : tie.Need-returns
 returns c =
     let s = c .before .before .before in
-    omega (arith, ap length (text-below (toZ-ofZ (s .fits .z)) (c .before .before .size-of .ensures) (c .if1 .taken)))
+    omega (arith, ap length (text-below (toZ-ofZ (s .fits .z)) (c .before .before .magnitude .ensures) (c .if1 .taken)))
 
 returns-2 : tie.Need-returns-2
 returns-2 c =
     let s = c .before .before .before in
-    omega (arith, ap length (text-above (toZ-ofZ (s .fits .z)) (c .before .before .size-of .ensures) (c .if1 .left)))
+    omega (arith, ap length (text-above (toZ-ofZ (s .fits .z)) (c .before .before .magnitude .ensures) (c .if1 .left)))
 
 pub signed-size-spec : {M : Type 1} → statement M
 signed-size-spec =
-    tie.close (tie.spec size-of-requires digit-count-requires add-result returns returns-2)
+    tie.close (tie.spec magnitude-requires digit-count-requires add-result returns returns-2)

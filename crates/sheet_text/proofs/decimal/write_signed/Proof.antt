@@ -14,12 +14,12 @@ use Rattle.sheet_text.proofs.DecimalLaws.{text-below, text-above}
 use Rattle.sheet_text.proofs.decimal.write_signed.Statement.{statement}
 use Rattle.sheet_text.proofs.decimal.write_signed.Tie as tie
 
-size-of-requires : tie.Need-size-of-requires
-size-of-requires c κs = search needs
+magnitude-requires : tie.Need-magnitude-requires
+magnitude-requires c κs = search needs
 
 -- below nought
-below : (c : tie.Then1) → signedText (c .before .before .before .args .z) ≡ 45 ∷ countText (c .before .size-of .result)
-below c = text-below (toZ-ofZ (c .before .before .before .fits .z)) (c .before .size-of .ensures) (c .if1 .taken)
+below : (c : tie.Then1) → signedText (c .before .before .before .args .z) ≡ 45 ∷ countText (c .before .magnitude .result)
+below c = text-below (toZ-ofZ (c .before .before .before .fits .z)) (c .before .magnitude .ensures) (c .if1 .taken)
 
 slice-write-buffer : tie.Need-slice-write-buffer
 slice-write-buffer c = omega (arith, ap length (below c))
@@ -40,13 +40,13 @@ returns c =
     let w = c .before .before .write-count in (
       omega (arith, w .ensures .0, ap length (below t)),
       w .ensures .1
-          ∙ ap (λ (i : ℕ). sets (set (a .buffer .now) (a .at) 45) i (countText (t .before .size-of .result))) (add-one (a .at))
+          ∙ ap (λ (i : ℕ). sets (set (a .buffer .now) (a .at) 45) i (countText (t .before .magnitude .result))) (add-one (a .at))
           ∙ sym (ap (sets (a .buffer .now) (a .at)) (below t)),
     )
 
 -- from nought on
-above : (c : tie.Else1) → signedText (c .before .before .before .args .z) ≡ countText (c .before .size-of .result)
-above c = text-above (toZ-ofZ (c .before .before .before .fits .z)) (c .before .size-of .ensures) (c .if1 .left)
+above : (c : tie.Else1) → signedText (c .before .before .before .args .z) ≡ countText (c .before .magnitude .result)
+above c = text-above (toZ-ofZ (c .before .before .before .fits .z)) (c .before .magnitude .ensures) (c .if1 .left)
 
 write-count-requires-2 : tie.Need-write-count-requires-2
 write-count-requires-2 c κs = omega (arith, ap length (above (c .before)))
@@ -65,7 +65,7 @@ pub write-signed-spec : {M : Type 1} → statement M
 write-signed-spec =
     tie.close
     (tie.spec
-    size-of-requires
+    magnitude-requires
     slice-write-buffer
     add-write-count
     write-count-requires

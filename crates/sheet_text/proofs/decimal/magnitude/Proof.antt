@@ -1,4 +1,4 @@
--- `sheet_text::decimal::size_of` meets its contract. In 64 bits the size of every number of 32 bits fits.
+-- `sheet_text::decimal::magnitude` meets its contract. In 64 bits the size of every number of 32 bits fits.
 -- Assumes nothing.
 use mathlib.Core.Path.{_≡_, ap}
 use native.Mathlib.Omega.{arith}
@@ -9,8 +9,8 @@ use mir.Syntax.{w32, w64}
 use mir.Val.{SFits, Fits, toZ, ofZ}
 use mir.Facts.{toZ-ofZ, sfits-widen, fits-natAbs}
 use Rattle.sheet_text.proofs.DecimalLaws.{size-below, size-above}
-use Rattle.sheet_text.proofs.decimal.size_of.Statement.{statement}
-use Rattle.sheet_text.proofs.decimal.size_of.Tie as tie
+use Rattle.sheet_text.proofs.decimal.magnitude.Statement.{statement}
+use Rattle.sheet_text.proofs.decimal.magnitude.Tie as tie
 
 module _ (s : tie.Start) where
   abbrev z : ℤ
@@ -56,6 +56,6 @@ returns c = ap natAbs (less-back c)
 returns-2 : tie.Need-returns-2
 returns-2 c = ap natAbs (wide-is (c .before))
 
-pub size-of-spec : {M : Type 1} → statement M
-size-of-spec =
+pub magnitude-spec : {M : Type 1} → statement M
+magnitude-spec =
     tie.close (tie.spec cast-wide sub-result cast-result cast-result-2 returns returns-2)

@@ -1,34 +1,34 @@
 // Prints the sheet of the book of cards on standard input: its curves in book order, or its refusal.
 // It decides nothing: the calls say what is read, reckoned and printed.
 use book::BookReply;
+use book::LEAST_LIST;
+use book::MOST_BYTES;
+use sheet_text::ENOUGH_BYTES;
+use sheet_text::ENOUGH_NUMBERS;
 use sheet_text::Written;
+ghost use mathlib.Core.Bool.{true};
 ghost use mathlib.Core.Path.{_≡_};
 ghost use Prim.Native.Nat.{_≤_, _<_};
 ghost use lib.ListN.{length, replicate};
 ghost use Rattle.book.specs.Book.{leastList, replyToBook, listAfter};
 ghost use Rattle.sheet_text.specs.Buffer.{writtenOf, bufferAfter};
-ghost use Rattle.sheet_text.specs.Sheet.{partOf};
+ghost use Rattle.sheet_text.specs.Sheet.{enoughNumbers, enoughBytes, partOf};
 
 // One byte more than a book may have, so that a longer input is seen to be longer.
-const TEXT_ROOM: usize = 8193;
+const TEXT_ROOM: usize = MOST_BYTES + 1;
 
-// Room for the list of every book, for the table of every card, and for the text of every curve.
-const LIST_ROOM: usize = 640;
-
-const TABLE_ROOM: usize = 2107;
-
-const BUFFER_ROOM: usize = 25304;
-
-// Prints the bytes that are counted, which stand in the buffer from its start.
+// Prints a text that fits the buffer, and stands in it from its start.
 fn print_written(written: Written, buffer: &[u8])
-    requires { ⌜ written .count ≤ length (now buffer) ⌝ }
+    requires { ⌜ (written .fits ≡ true) × (written .count ≤ length (now buffer)) ⌝ }
 {
     let count = written.count;
     io::write_all(1, &buffer[..count]);
 }
 
 // Prints the line of a refused book, and nothing for an accepted one.
-fn print_book(reply: BookReply, buffer: &mut [u8]) {
+fn print_book(reply: BookReply, buffer: &mut [u8])
+    requires { ⌜ enoughBytes ≤ length (now buffer) ⌝ }
+{
     let written = sheet_text::book_text(reply, buffer);
     print_written(written, buffer);
 }
@@ -36,9 +36,9 @@ fn print_book(reply: BookReply, buffer: &mut [u8]) {
 // Writes the text of a curve of the list, counted from 0: its card goes to the table call, and the reply and the rows become text.
 fn write_curve(
     text: &[u8],
-    list: &[u32; LIST_ROOM],
+    list: &[u32; LEAST_LIST],
     curve: u32,
-    table: &mut [i32; TABLE_ROOM],
+    table: &mut [i32],
     buffer: &mut [u8],
 ) -> Written
     ensures { λ r. ⌜ r ≡ writtenOf (partOf (now (text .entry)) (now (list .entry)) curve (now (table .entry))) (length (now (buffer .entry))) ⌝ }
@@ -52,13 +52,14 @@ fn write_curve(
 // Prints a curve that the book counts, from the list that its text was read into.
 fn print_curve(
     text: &[u8],
-    list: &[u32; LIST_ROOM],
+    list: &[u32; LEAST_LIST],
     curve: u32,
-    table: &mut [i32; TABLE_ROOM],
+    table: &mut [i32],
     buffer: &mut [u8],
 )
     requires { ⌜ now list ≡ listAfter (now text) (replicate leastList 0) ⌝ }
     requires { ⌜ curve < (replyToBook (now text) leastList) .count ⌝ }
+    requires { ⌜ (enoughNumbers ≤ length (now table)) × (enoughBytes ≤ length (now buffer)) ⌝ }
 {
     let written = write_curve(text, list, curve, table, buffer);
     print_written(written, buffer);
@@ -66,9 +67,9 @@ fn print_curve(
 
 // Prints a refused book's line, or each curve of an accepted one, in order.
 fn print_sheet(text: &[u8]) {
-    let mut list = [0u32; LIST_ROOM];
-    let mut table = [0i32; TABLE_ROOM];
-    let mut buffer = [0u8; BUFFER_ROOM];
+    let mut list = [0u32; LEAST_LIST];
+    let mut table = [0i32; ENOUGH_NUMBERS];
+    let mut buffer = [0u8; ENOUGH_BYTES];
     let reply = book::read_book(text, &mut list);
     print_book(reply, &mut buffer);
     let curves = reply.count;

@@ -40,6 +40,9 @@ curve-text-requires c κs = search needs
 same-length : tie.Need-same-length
 same-length c = search needs
 
+same-length-2 : tie.Need-same-length-2
+same-length-2 c = search needs
+
 returns : tie.Need-returns
 returns c =
     let filled = c .before .before .before .before .before .before .before in
@@ -50,4 +53,10 @@ returns c =
 pub write-curve-spec : {M : Type 1} → statement M
 write-curve-spec =
     tie.close
-    (tie.spec card-of-curve-requires fill-table-requires curve-text-requires same-length returns)
+    (tie.spec
+    card-of-curve-requires
+    fill-table-requires
+    curve-text-requires
+    same-length
+    same-length-2
+    returns)

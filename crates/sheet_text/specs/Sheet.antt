@@ -50,7 +50,7 @@ abbrev pub partOf : List ℕ → List ℕ → ℕ → List ℤ → List ℕ
 partOf text list curve table =
     curveText (nameIn text list curve) (replyTo (cardIn list curve) (length table)) (tableAfter (cardIn list curve) table)
 
--- for its first k curves, in order, each with the table that is lent for it
+-- what they give for its first k curves, in order, each with the table that is lent for it
 unfoldable pub partsOf : List ℕ → List ℕ → (ℕ → List ℤ) → ℕ → List ℕ
 partsOf text list tables zero = []
 partsOf text list tables (suc k) = partsOf text list tables k ++ partOf text list k (tables k)

@@ -1,20 +1,19 @@
 -- The text of a book: where its lines stand, how long it is, and its curves read from the list of their numbers.
 -- Assumes nothing.
-use Prim.Native.Nat.{ℕ, zero, suc, _+_, _*_, _/_, _%_, _≤_}
+use Prim.Native.Nat.{ℕ, zero, _+_, _*_, _≤_}
 use mathlib.Core.Path.{_≡_, refl, sym, ap, _∙_, subst}
 use mathlib.Core.List.{List, [], _∷_, _++_, append-assoc, append-nil}
 use native.Mathlib.Omega.{arith}
 use native.Mathlib.Nat.{zero-add}
 use lib.ListN.{length, take, drop, length-append, length-map}
 use lib.Seq.{take-append-seam, take-at, drop-at, drop-length}
-use lib.Dec.{ltb}
 use Rattle.book.specs.Body.{cardNumbers, endOf}
 use Rattle.book.specs.Book.{mostBytes}
 use Rattle.book.specs.Printed.{Each, IsName, IsBody, IsBook, Curve, digitsText, numberText, contentsText, contentsTexts, bodyText, bodyTexts, namesOf, bodiesOf, bookText}
 use Rattle.book.specs.LineMeaning.{Stands}
 use Rattle.book.specs.Meaning.{entries, curveIn, curvesIn}
 use Rattle.book.specs.Cards.{namePlaceIn}
-use Rattle.book.proofs.Places.{cond-case}
+use Rattle.book.proofs.Digits.{digits-most}
 use Rattle.book.proofs.Standing.{stands-front, stands-back}
 
 -- a name and a body for each curve
@@ -25,13 +24,6 @@ pub bodies-length : (curves : List Curve) → length (bodiesOf curves) ≡ lengt
 bodies-length curves = length-map curves (λ (curve : Curve). curve .numbers)
 
 -- Lengths.
-digits-most : (k v : ℕ) → length (digitsText k v) ≤ k
-unfolding digitsText
-digits-most zero v = omega arith
-digits-most (suc k) v =
-    cond-case (λ (l : List ℕ). length l ≤ suc k) (ltb v 10) _ _ (λ t. omega arith)
-    (λ t. omega (arith, length-append (digitsText k (v / 10)) ((48 + v % 10) ∷ []), digits-most k (v / 10)))
-
 number-most : (v end : ℕ) → length (numberText v end) ≤ 8
 number-most v end = omega (arith, length-append (digitsText 7 v) (end ∷ []), digits-most 7 v)
 

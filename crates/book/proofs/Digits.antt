@@ -6,6 +6,7 @@ use mathlib.Core.List.{List, [], _∷_, _++_}
 use native.Mathlib.Omega.{arith}
 use native.Mathlib.Nat.{pow-suc}
 use lib.Dec.{ltb}
+use lib.ListN.{length, length-append}
 use borrow.Author.Tests.{lt-ltb, le-ltb, ltb-true, ltb-false}
 use Rattle.book.specs.Printed.{digitsText}
 use Rattle.book.proofs.Places.{cond-case}
@@ -21,6 +22,15 @@ text-one k v h = simp (lt-ltb _ _ h)
 pub text-more : (k v : ℕ) → 10 ≤ v → digitsText (suc k) v ≡ digitsText k (v / 10) ++ ((48 + v % 10) ∷ [])
 unfolding digitsText
 text-more k v h = simp (le-ltb _ _ h)
+
+-- at most as many digits as may stand
+pub digits-most : (k v : ℕ) → length (digitsText k v) ≤ k
+unfolding digitsText
+digits-most zero v = omega arith
+digits-most (suc k) v =
+    digit-or v
+    (λ h. omega (arith, ap length (text-one k v h)))
+    (λ h. omega (arith, ap length (text-more k v h), length-append (digitsText k (v / 10)) ((48 + v % 10) ∷ []), digits-most k (v / 10)))
 
 -- one digit more at the end
 text-next : (k v d : ℕ) → 1 ≤ v → d < 10 → digitsText (suc k) (v * 10 + d) ≡ digitsText k v ++ ((48 + d) ∷ [])

@@ -79,7 +79,7 @@ module _ (text : List ℕ) where
     number-read at v next e = subst (Read at) e (read-of at)
 
 -- the digit of a byte, and at a place where its text stands
-of-digit : (d : ℕ) → d < 10 → digitOf (48 + d) ≡ d
+pub of-digit : (d : ℕ) → d < 10 → digitOf (48 + d) ≡ d
 of-digit d h =
     cond-case (λ (n : ℕ). n ≡ d) (ltb (48 + d) 48) _ _ (λ t. absurd (omega (arith, ltb-true (48 + d) 48 t)))
     (λ t. cond-case (λ (n : ℕ). n ≡ d) (ltb 57 (48 + d)) _ _ (λ u. absurd (omega (arith, ltb-true 57 (48 + d) u))) (λ u. omega arith))

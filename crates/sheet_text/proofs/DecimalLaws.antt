@@ -28,11 +28,6 @@ pub size-some : (k v : ℕ) → 0 < k → 1 ≤ length (digitsText k v)
 size-some zero v some = absurd (omega arith)
 size-some (suc k) v some = digit-or v (λ h. omega (arith, size-one k v h)) (λ h. omega (arith, size-more k v h))
 
-pub size-short : (k v : ℕ) → length (digitsText k v) ≤ k
-unfolding digitsText
-size-short zero v = omega arith
-size-short (suc k) v = digit-or v (λ h. omega (arith, size-one k v h)) (λ h. omega (arith, size-more k v h, size-short k (v / 10)))
-
 -- the digits of v are counted from the last one on: those of `whole` but its last are left to count, and they are `rest`
 pub record Counted (v digits rest : ℕ) : Type 0 where
   pub whole : ℕ

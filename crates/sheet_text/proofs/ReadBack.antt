@@ -1,29 +1,24 @@
 -- The text of a signed number reads as the number: DecimalTheorem of specs/Decimal.antt.
 -- Assumes nothing.
 use Prim.Native.Nat.{ℕ, zero, suc, _+_, _*_, _/_, _%_, _^_, _≤_, _<_}
-use mathlib.Core.Path.{_≡_, refl, ap, _∙_}
+use mathlib.Core.Path.{_≡_, refl, ap, _∙_, subst}
 use mathlib.Core.List.{List, [], _∷_, _++_}
 use native.Mathlib.Omega.{arith}
-use borrow.Author.Tests.{le-ltb, ne-eqb}
+use borrow.Author.Tests.{ne-eqb}
 use lib.IntN.{ℤ, pos, negsuc, negℤ, natAbs}
 use lib.ListN.{getD}
 use Rattle.book.specs.Number.{digitOf}
 use Rattle.book.specs.Printed.{Each, digitsText}
-use Rattle.book.proofs.Digits.{digit-or, text-one, text-more, tenth-below}
+use Rattle.book.proofs.Digits.{digit-or, digits-most, text-one, text-more, tenth-below}
+use Rattle.book.proofs.NumberText.{of-digit}
+use Rattle.book.proofs.Lists.{each-more}
 use Rattle.sheet_text.specs.Decimal.{mostDigits, countText, signedText, digitsValue, signedOf, IsDigit, DecimalTheorem}
-use Rattle.sheet_text.proofs.DecimalLaws.{size-some, size-short}
-
--- the byte of a digit
-digit-is : (d : ℕ) → d < 10 → digitOf (48 + d) ≡ d
-digit-is d h =
-    let low : 48 ≤ 48 + d = omega arith in
-    let high : 48 + d ≤ 57 = omega arith in
-    simp (le-ltb (48 + d) 48 low, le-ltb 57 (48 + d) high) (omega arith)
+use Rattle.sheet_text.proofs.DecimalLaws.{size-some}
 
 -- one digit more at the end
 value-more : (u d : ℕ) (text : List ℕ) → d < 10 → digitsValue u (text ++ ((48 + d) ∷ [])) ≡ digitsValue u text * 10 + d
 unfolding digitsValue
-value-more u d [] h = ap (λ (x : ℕ). u * 10 + x) (digit-is d h)
+value-more u d [] h = ap (λ (x : ℕ). u * 10 + x) (of-digit d h)
 value-more u d (b ∷ text) h = value-more (u * 10 + digitOf b) d text h
 
 -- the digits of a number have its value
@@ -37,44 +32,26 @@ text-value (suc k) v h =
     ∙ value-more 0 (v % 10) (digitsText k (v / 10)) (omega arith)
     ∙ omega (arith, text-value k (v / 10) (tenth-below k v h)))
 
--- no digit is a minus: the first byte, where there is one, is 48 or above
-first-more : (text : List ℕ) (d : ℕ) → 48 ≤ getD text 0 48 → 48 ≤ getD (text ++ ((48 + d) ∷ [])) 0 48
-first-more [] d h = omega arith
-first-more (b ∷ text) d h = h
-
-text-first : (k v : ℕ) → 48 ≤ getD (digitsText k v) 0 48
-unfolding digitsText
-text-first zero v = omega arith
-text-first (suc k) v =
-    digit-or v
-    (λ l. rw (text-one k v l) (omega arith))
-    (λ l. rw (text-more k v l) (first-more (digitsText k (v / 10)) (v % 10) (text-first k (v / 10))))
-
--- so the text of a count reads as the count
-signed-plain : (text : List ℕ) → 48 ≤ getD text 0 48 → signedOf text ≡ pos (digitsValue 0 text)
-unfolding signedOf digitsValue
-signed-plain [] h = refl
-signed-plain (b ∷ text) h = simp (ne-eqb b 45 (λ e. omega arith))
-
-back : (z : ℤ) → natAbs z < 10 ^ mostDigits → signedOf (signedText z) ≡ z
-unfolding signedOf signedText
-back (pos n) h = signed-plain (countText n) (text-first mostDigits n) ∙ ap pos (text-value mostDigits n h)
-back (negsuc n) h = ap (λ (m : ℕ). negℤ (pos m)) (text-value mostDigits (suc n) h)
-
--- a byte more at the end
-each-more : (text : List ℕ) (b : ℕ) → Each IsDigit text → IsDigit b → Each IsDigit (text ++ (b ∷ []))
-unfolding Each
-each-more [] b all one = (one, tt)
-each-more (first ∷ text) b all one = (all .0, each-more text b (all .1) one)
-
+-- the text of a count has digits only
 text-digits : (k v : ℕ) → Each IsDigit (digitsText k v)
 unfolding digitsText Each
 text-digits zero v = tt
 text-digits (suc k) v =
     digit-or v
-    (λ l. rw (text-one k v l) (rw (digit-is v l) l, tt))
+    (λ l. rw (text-one k v l) (rw (of-digit v l) l, tt))
     (λ l. let d : v % 10 < 10 = omega arith in
-    rw (text-more k v l) (each-more (digitsText k (v / 10)) (48 + v % 10) (text-digits k (v / 10)) (rw (digit-is (v % 10) d) d)))
+    rw (text-more k v l) (each-more IsDigit (digitsText k (v / 10)) (48 + v % 10) (text-digits k (v / 10)) (rw (of-digit (v % 10) d) d)))
+
+-- no digit is a minus, so a text of digits reads as a count
+signed-plain : (text : List ℕ) → Each IsDigit text → signedOf text ≡ pos (digitsValue 0 text)
+unfolding signedOf digitsValue Each
+signed-plain [] all = refl
+signed-plain (b ∷ text) all = simp (ne-eqb b 45 (λ e. let d : 10 < 10 = subst IsDigit e (all .0) in omega arith))
+
+back : (z : ℤ) → natAbs z < 10 ^ mostDigits → signedOf (signedText z) ≡ z
+unfolding signedOf signedText
+back (pos n) h = signed-plain (countText n) (text-digits mostDigits n) ∙ ap pos (text-value mostDigits n h)
+back (negsuc n) h = ap (λ (m : ℕ). negℤ (pos m)) (text-value mostDigits (suc n) h)
 
 -- the first digit stays the first where there is one
 first-kept : (text : List ℕ) (b : ℕ) → 49 ≤ getD text 0 48 → 49 ≤ getD (text ++ (b ∷ [])) 0 48
@@ -95,6 +72,6 @@ read-back = record {
   back = back;
   digits = text-digits mostDigits;
   some = λ v. size-some mostDigits v (omega arith);
-  most = size-short mostDigits;
+  most = digits-most mostDigits;
   leading = text-leading mostDigits;
 }

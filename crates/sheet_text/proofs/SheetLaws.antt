@@ -11,10 +11,10 @@ use Rattle.runoff.specs.declared.Card.{Card}
 use Rattle.runoff.specs.Rows.{cells, rowOf, stationOf, rowWidth, joined}
 use Rattle.runoff.proofs.Joined.{length-joined}
 use Rattle.runoff.proofs.RowBlocks.{firstRows}
+use Rattle.book.proofs.Digits.{digits-most}
 use Rattle.sheet_text.specs.Decimal.{mostDigits, signedText}
 use Rattle.sheet_text.specs.Text.{rowText, rowsText, endedText}
 use Rattle.sheet_text.specs.Sheet.{rowLines}
-use Rattle.sheet_text.proofs.DecimalLaws.{size-short}
 use Rattle.sheet_text.proofs.Buffers.{ended-length}
 
 -- ---- the lines of rows that are joined from the left, as they are printed from the front
@@ -52,13 +52,13 @@ module _ (card : Card) where
 -- ---- how many bytes a text has at most
 -- a word, a count and the end of the line
 pub ended-short : (word : List ℕ) (v : ℕ) → length (endedText word v) ≤ length word + (mostDigits + 1)
-ended-short word v = omega (arith, ended-length word v, size-short mostDigits v)
+ended-short word v = omega (arith, ended-length word v, digits-most mostDigits v)
 
 -- ten digits and a minus
 signed-short : (z : ℤ) → length (signedText z) ≤ mostDigits + 1
 unfolding signedText
-signed-short (pos n) = omega (arith, size-short mostDigits n)
-signed-short (negsuc n) = omega (arith, size-short mostDigits (suc n))
+signed-short (pos n) = omega (arith, digits-most mostDigits n)
+signed-short (negsuc n) = omega (arith, digits-most mostDigits (suc n))
 
 -- twelve bytes a number: eleven, and the byte that ends it
 row-short : (row : List ℤ) → length (rowText row) ≤ 12 * length row

@@ -22,10 +22,10 @@ use Rattle.book.proofs.Places.{cond-case}
 use Rattle.book.proofs.BookMeaning.{meaning}
 use Rattle.book.proofs.BookReasons.{reasons}
 use Rattle.book.proofs.HandedCards.{handed-cards, own-part}
+use Rattle.book.proofs.Digits.{digits-most}
 use Rattle.sheet_text.specs.Decimal.{mostDigits}
 use Rattle.sheet_text.specs.Text.{blank, refusedWord, lineWord, heldRows, endedText, acceptedText, refusedText, refusedBookText, curveText, bookLine}
 use Rattle.sheet_text.specs.Sheet.{rowLines, cardSheet, curveSheet, curvesSheet, enoughNumbers, enoughBytes, partOf, partsOf, sheetOf, SheetTheorem}
-use Rattle.sheet_text.proofs.DecimalLaws.{size-short}
 use Rattle.sheet_text.proofs.SheetLaws.{lines-there, ended-short, lines-short}
 
 -- ---- a curve
@@ -78,7 +78,7 @@ unfolding refusedBookText
 line-short reply =
     cond-case (λ (t : List ℕ). length t ≤ enoughBytes) (eqb (reply .number) 0) [] (refusedBookText (reply .number) (reply .line))
     (λ t. omega arith)
-    (λ t. simp length-append (omega (arith, size-short mostDigits (reply .number), ended-short lineWord (reply .line))))
+    (λ t. simp length-append (omega (arith, digits-most mostDigits (reply .number), ended-short lineWord (reply .line))))
 
 -- each curve that stands in a book, by the calls
 part-sheet : (before : List Curve) (curve : Curve) (later : List Curve) (list : List ℕ) (table : List ℤ)

@@ -1,0 +1,74 @@
+// The calls for firmware in C: the library's own, with the card as its eight numbers and the reply as a number and counts.
+use book::read_book;
+use runoff::Card;
+use runoff::check_card;
+use runoff::fill_table;
+ghost use mathlib.Core.Path.{_≡_};
+ghost use denote.Ref.{now};
+ghost use lib.ListN.{length};
+ghost use Rattle.runoff.specs.Refusal.{refusal};
+ghost use Rattle.runoff.specs.Table.{replyTo, tableAfter};
+ghost use Rattle.runoff.specs.Climbing.{ClimbingTable};
+ghost use Rattle.book.specs.Cards.{cardOf};
+ghost use Rattle.book.specs.Book.{replyToBook, listAfter};
+
+// The card with these eight numbers, in the order of the paper.
+fn card_of(numbers: &[u32; 8]) -> Card
+    ensures { λ r. ⌜ r ≡ cardOf (now (numbers .entry)) ⌝ }
+{
+    Card {
+        profile: numbers[0],
+        terrain: numbers[1],
+        radius: numbers[2],
+        clothoid: numbers[3],
+        full_slope: numbers[4],
+        full_widening: numbers[5],
+        step: numbers[6],
+        unit: numbers[7],
+    }
+}
+
+// 0 for an accepted card, else the number of the first of its own reasons, 1 to 10.
+#[no_mangle]
+pub extern "C" fn pippinterm_check_card(card: &[u32; 8]) -> u32
+    ensures { λ r. ⌜ r ≡ refusal (cardOf (now (card .entry))) ⌝ }
+{
+    let c = card_of(card);
+    check_card(c)
+}
+
+// Fills the lent table with the card's rows: 0, and `count` has how many; or the number of the reason, 1 to 11, `count` has 0, and the table is as it was.
+#[no_mangle]
+pub extern "C" fn pippinterm_fill_table(card: &[u32; 8], table: &mut [i32], count: &mut u32) -> u32
+    ensures { λ r. ⌜ r ≡ replyTo (cardOf (now (card .entry))) (length (now (table .entry))) .number ⌝ }
+    ensures { λ _. ⌜ now (count .exit) ≡ replyTo (cardOf (now (card .entry))) (length (now (table .entry))) .count ⌝ }
+    ensures { λ _. ⌜ now (table .exit) ≡ tableAfter (cardOf (now (card .entry))) (now (table .entry)) ⌝ }
+    ensures { λ r. ⌜ (r ≡ 0 → ClimbingTable (cardOf (now (card .entry))) (now (count .exit)) (now (table .exit))) ⌝ }
+{
+    let c = card_of(card);
+    let reply = fill_table(c, table);
+    let rows = reply.count;
+    *count = rows;
+    reply.number
+}
+
+// Reads a book into the lent list, ten numbers a curve: 0, and `count` has how many curves; or the number of the refusal, 21 to 28, `count` has 0, and the list is as it was. `line` has the line at fault, and 0 where it is no line's.
+#[no_mangle]
+pub extern "C" fn pippinterm_read_book(
+    text: &[u8],
+    list: &mut [u32],
+    count: &mut u32,
+    line: &mut u32,
+) -> u32
+    ensures { λ r. ⌜ r ≡ replyToBook (now (text .entry)) (length (now (list .entry))) .number ⌝ }
+    ensures { λ _. ⌜ now (count .exit) ≡ replyToBook (now (text .entry)) (length (now (list .entry))) .count ⌝ }
+    ensures { λ _. ⌜ now (line .exit) ≡ replyToBook (now (text .entry)) (length (now (list .entry))) .line ⌝ }
+    ensures { λ _. ⌜ now (list .exit) ≡ listAfter (now (text .entry)) (now (list .entry)) ⌝ }
+{
+    let reply = read_book(text, list);
+    let curves = reply.count;
+    let at = reply.line;
+    *count = curves;
+    *line = at;
+    reply.number
+}

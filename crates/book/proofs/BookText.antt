@@ -1,6 +1,6 @@
 -- The text of a book: where its lines stand, how long it is, and its curves read from the list of their numbers.
 -- Assumes nothing.
-use Prim.Native.Nat.{ℕ, zero, _+_, _*_, _≤_}
+use Prim.Native.Nat.{ℕ, _+_, _*_, _≤_}
 use mathlib.Core.Path.{_≡_, refl, sym, ap, _∙_, subst}
 use mathlib.Core.List.{List, [], _∷_, _++_, append-assoc, append-nil}
 use native.Mathlib.Omega.{arith}

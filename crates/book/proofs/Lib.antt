@@ -9,10 +9,12 @@ pub mod NumberText
 pub mod NameText
 pub mod ContentsLineText
 pub mod TwinText
+pub mod Keys
 pub mod BodyText
 pub mod LineMeaning
 pub mod Outcomes
 pub mod Lists
+pub mod Kept
 pub mod RightLines
 pub mod Walks
 pub mod Accepts

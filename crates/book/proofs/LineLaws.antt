@@ -2,7 +2,7 @@
 -- Assumes nothing.
 use Prim.Native.Nat.{ℕ, zero, suc, _+_, _-_, _≤_, _<_}
 use mathlib.Core.Path.{_≡_, refl, sym, ap, _∙_, subst}
-use mathlib.Core.Bool.{true, false}
+use mathlib.Core.Bool.{false}
 use mathlib.Core.List.{List}
 use native.Mathlib.Omega.{arith}
 use lib.ListN.{length}
@@ -44,6 +44,20 @@ module _ (text : List ℕ) (at k end : ℕ) (more : 0 < k) (ends : end ≡ endOf
 pub body-none : (text : List ℕ) (at k : ℕ) → k ≤ 0 → bodyFrom k text at ≡ Next at
 unfolding bodyFrom
 body-none text at = none-left (λ k. bodyFrom k text at)
+
+-- a body's only fault is 26
+abbrev pub Faults26 : Line → Type 0
+Faults26 (Next p) = Unit
+Faults26 (Fault f) = f ≡ 26
+
+field-26 : (f : Field) (go : ℕ → Line) → ((p : ℕ) → Faults26 (go p)) → Faults26 (fieldThen f go)
+field-26 (Value v next) go h = h next
+field-26 NoValue go h = refl
+
+pub body-26 : (k : ℕ) (text : List ℕ) (at : ℕ) → Faults26 (bodyFrom k text at)
+unfolding bodyFrom
+body-26 zero text at = tt
+body-26 (suc k) text at = field-26 (numberAt text at (endOf k)) (bodyFrom k text) (λ p. body-26 k text p)
 
 -- the place after a line is at most m
 abbrev LineIn : ℕ → Line → Type 0
@@ -94,10 +108,6 @@ heading-in text at =
     (omega (arith, name-in text at (omega arith)))
     (field-in text 10 (lit< tt) (at + nameAt text at + 1)))
 
--- the name of a contents line lies inside the text
-pub heading-size : (text : List ℕ) (at : ℕ) {size v next : ℕ} → headingAt text at ≡ Entry size v next → at + size ≤ length text
-heading-size text at e = subst (HeadingIn text at) e (heading-in text at) .1
-
 heading-next-in : (text : List ℕ) (at : ℕ) (h : Heading) → at ≤ length text → HeadingIn text at h → headingNext at h ≤ length text
 heading-next-in text at (Entry n v next) l i = i .0
 heading-next-in text at NoEntry l i = l
@@ -106,6 +116,11 @@ heading-next-in text at NoEntry l i = l
 pub after-in : (text : List ℕ) (at : ℕ) → at ≤ length text → afterHeading text at ≤ length text
 unfolding afterHeading
 after-in text at l = heading-next-in text at (headingAt text at) l (heading-in text at)
+
+-- the number of a fault is not 0
+abbrev Faulty : Line → Type 0
+Faulty (Next p) = Unit
+Faulty (Fault number) = 0 < number
 
 module _ (text earlier : List ℕ) (at due : ℕ) where
   line-of-in : (h : Heading) → HeadingIn text at h → LineIn (length text) (contentsLineOf text earlier at due h)
@@ -123,23 +138,20 @@ module _ (text earlier : List ℕ) (at due : ℕ) where
   pub contents-next : {p : ℕ} → contentsLine text earlier at due ≡ Next p → p ≤ length text
   contents-next e = subst (LineIn (length text)) e contents-in
 
-  -- 23: malformed
-  pub line-malformed : headingAt text at ≡ NoEntry → contentsLine text earlier at due ≡ Fault 23
+  -- the fault of a contents line is no 0
+  pub contents-fault : {number : ℕ} → contentsLine text earlier at due ≡ Fault number → 0 < number
   unfolding contentsLine
-  line-malformed e = ap (contentsLineOf text earlier at due) e
+  contents-fault e = subst Faulty e (of-heading (headingAt text at))
+    where
+      of-heading : (h : Heading) → Faulty (contentsLineOf text earlier at due h)
+      of-heading NoEntry = omega arith
+      of-heading (Entry size v next) =
+          cond-case Faulty (eqb v due) _ _ (λ t. cond-case Faulty (twinAt text earlier at size) _ _ (λ u. omega arith) (λ u. tt)) (λ t. omega arith)
 
   module _ {size v next : ℕ} (e : headingAt text at ≡ Entry size v next) where
     line-entry : contentsLine text earlier at due ≡ contentsLineOf text earlier at due (Entry size v next)
     unfolding contentsLine
     line-entry = ap (contentsLineOf text earlier at due) e
-
-    -- 24: not the number due
-    pub line-wrong : (v ≡ due → ⊥) → contentsLine text earlier at due ≡ Fault 24
-    line-wrong h = line-entry ∙ simp (ne-eqb _ _ h)
-
-    -- 25: a twin
-    pub line-twin : v ≡ due → twinAt text earlier at size ≡ true → contentsLine text earlier at due ≡ Fault 25
-    line-twin h t = line-entry ∙ simp (eq-eqb _ _ h, t)
 
     -- else the next line follows
     pub line-good : v ≡ due → twinAt text earlier at size ≡ false → contentsLine text earlier at due ≡ Next next

@@ -1,18 +1,16 @@
--- Names at places of a text: their bytes, their sizes, and where the same name stands earlier.
+-- Names at places of a text: their bytes and their sizes.
 -- Assumes nothing.
 use Prim.Native.Nat.{ℕ, zero, suc, _+_, _-_, _≤_, _<_}
-use mathlib.Core.Path.{_≡_, refl, ap, _∙_}
-use mathlib.Core.Bool.{true, false, cond, false≢true}
+use mathlib.Core.Path.{_≡_, refl, ap}
+use mathlib.Core.Bool.{true, false, false≢true}
 use mathlib.Core.List.{List}
 use native.Mathlib.Omega.{arith}
-use native.Mathlib.Numerals.{add-one}
-use lib.ListN.{length, getD, drop, drop-of-length-le}
-use lib.Seq.{drop-cons}
+use lib.ListN.{length}
 use lib.Dec.{eqb}
-use borrow.Author.Tests.{eqb-true, eq-eqb, ne-eqb}
+use borrow.Author.Tests.{eqb-true}
 use Rattle.book.specs.Number.{byteAt}
-use Rattle.book.specs.Name.{isNameByte, nameRun, nameAt, sameBytes, twinAt}
-use Rattle.book.proofs.Places.{cond-case, none-left, inside, byte-inside}
+use Rattle.book.specs.Name.{isNameByte, nameRun, nameAt}
+use Rattle.book.proofs.Places.{cond-case, inside, byte-inside}
 
 -- a byte of a name stands inside the text
 pub name-byte-inside : (text : List ℕ) (at : ℕ) → isNameByte (byteAt text at) ≡ true → at < length text
@@ -71,42 +69,3 @@ module _ (text : List ℕ) where
   unfolding nameAt
   name-fits at h =
       cond-case (λ (n : ℕ). at + n ≤ length text) (eqb (byteAt text (at + nameRun 8 text at)) 32) _ _ (λ t. run-in 8 at h) (λ t. omega arith)
-
-module _ (text : List ℕ) (a b : ℕ) where
-  -- no bytes are the same bytes
-  pub same-none : (k : ℕ) → k ≤ 0 → sameBytes k text a b ≡ true
-  unfolding sameBytes
-  same-none = none-left (λ k. sameBytes k text a b)
-
-  -- one byte that is the same
-  pub same-turn : (k : ℕ) → 0 < k → byteAt text a ≡ byteAt text b → sameBytes k text a b ≡ sameBytes (k - 1) text (a + 1) (b + 1)
-  unfolding sameBytes
-  same-turn zero h e = absurd (omega arith)
-  same-turn (suc k) h e = let p : suc k - 1 ≡ k = omega arith in simp (eq-eqb _ _ e, p)
-
-  -- one byte that is not
-  pub same-stop : (k : ℕ) → 0 < k → (byteAt text a ≡ byteAt text b → ⊥) → sameBytes k text a b ≡ false
-  unfolding sameBytes
-  same-stop zero h e = absurd (omega arith)
-  same-stop (suc k) h e = simp (ne-eqb _ _ e)
-
-module _ (text earlier : List ℕ) (at size i : ℕ) where
-  -- after the last earlier place there is no twin
-  pub twin-past : length earlier ≤ i → twinAt text (drop i earlier) at size ≡ false
-  unfolding twinAt
-  twin-past h = rw (drop-of-length-le earlier h)
-
-  module _ (some : i < length earlier) where
-    twin-next : twinAt text (drop i earlier) at size
-        ≡ cond (sameBytes (size + 1) text (getD earlier i 0) at) true (twinAt text (drop (i + 1) earlier) at size)
-    unfolding twinAt
-    twin-next = rw (drop-cons earlier i 0 some, add-one i)
-
-    -- the same name stands at the next place
-    pub twin-here : sameBytes (size + 1) text (getD earlier i 0) at ≡ true → twinAt text (drop i earlier) at size ≡ true
-    twin-here e = twin-next ∙ rw e
-
-    -- it does not
-    pub twin-turn : sameBytes (size + 1) text (getD earlier i 0) at ≡ false
-        → twinAt text (drop i earlier) at size ≡ twinAt text (drop (i + 1) earlier) at size
-    twin-turn e = twin-next ∙ rw e

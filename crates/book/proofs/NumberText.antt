@@ -7,14 +7,14 @@ use mathlib.Core.Logic.{⊎-elim}
 use native.Mathlib.Omega.{arith}
 use native.Mathlib.Nat.{eq-zero-or-pos}
 use lib.ListN.{length}
-use lib.Dec.{ltb, eqb}
+use lib.Dec.{ltb, eqb, lit<}
 use borrow.Author.Tests.{ltb-true, ltb-false, eqb-true, eqb-false, eq-eqb}
 use Rattle.book.specs.Number.{byteAt, digitOf, digitAt, endedAt, digitsAt, numberAt}
 use Rattle.book.specs.Printed.{IsNumber, digitsText, numberText}
 use Rattle.book.specs.LineMeaning.{Stands}
 use Rattle.book.specs.declared.text.Field.{Field}
 use Rattle.book.specs.declared.text.Field.the-variants.{Value, NoValue}
-use Rattle.book.proofs.Places.{cond-case, byte-inside, digit-inside, digits-stop, digits-more, ten-more, power-wide, field-zero, field-some}
+use Rattle.book.proofs.Places.{cond-case, byte-inside, digit-inside, digits-stop, digits-more, base-more, power-wide, field-zero, field-some}
 use Rattle.book.proofs.Standing.{byte-there, stands-one, stands-join, stands-front, stands-back}
 use Rattle.book.proofs.Digits.{digit-or, text-one, text-more, text-seven, tenth-below}
 
@@ -53,14 +53,14 @@ module _ (text : List ℕ) where
     digits-read : (k n start at v : ℕ) → k + n ≡ 7 → 1 ≤ v → v < 10 ^ n → Stands text start (digitsText 7 v) at
         → Read start (digitsAt k text at v end)
     unfolding digitsAt
-    digits-read zero n start at v l h b s = ended-read start at v (power-wide n 7 v (omega arith) b) s
+    digits-read zero n start at v l h b s = ended-read start at v (power-wide n 7 v (lit< tt) (omega arith) b) s
     digits-read (suc k) n start at v l h b s =
         cond-case (Read start) (ltb (digitAt text at) 10) _ _
         (λ t. let d : digitAt text at < 10 = ltb-true _ _ t in
-        digits-read k (n + 1) start (at + 1) (v * 10 + digitAt text at) (omega arith) (omega arith) (ten-more n v (digitAt text at) b d)
-        (subst (λ (bytes : List ℕ). Stands text start bytes (at + 1)) (sym (text-seven v (digitAt text at) h (power-wide n 6 v (omega arith) b) d))
+        digits-read k (n + 1) start (at + 1) (v * 10 + digitAt text at) (omega arith) (omega arith) (base-more n v (digitAt text at) b d)
+        (subst (λ (bytes : List ℕ). Stands text start bytes (at + 1)) (sym (text-seven v (digitAt text at) h (power-wide n 6 v (lit< tt) (omega arith) b) d))
         (stands-join (digitsText 7 v) ((48 + digitAt text at) ∷ []) s (digit-stands at d))))
-        (λ t. ended-read start at v (power-wide n 7 v (omega arith) b) s)
+        (λ t. ended-read start at v (power-wide n 7 v (lit< tt) (omega arith) b) s)
 
     -- a number
     read-of : (at : ℕ) → Read at (numberAt text at end)

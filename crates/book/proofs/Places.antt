@@ -5,10 +5,10 @@ use mathlib.Core.Path.{_≡_, refl, ap, _∙_, subst}
 use mathlib.Core.Bool.{Bool, true, false, cond}
 use mathlib.Core.List.{List, [], _∷_}
 use native.Mathlib.Omega.{arith}
-use native.Mathlib.Nat.{pow-suc, pow-le-pow-right, lt-of-lt-of-le}
+use native.Mathlib.Nat.{pow-suc, pow-le-pow-right, mul-le-mul-right, suc-mul, lt-of-lt-of-le}
 use native.Mathlib.Numerals.{add-one}
 use lib.ListN.{length}
-use lib.Dec.{ltb, eqb, lit<}
+use lib.Dec.{ltb, eqb}
 use borrow.Author.Tests.{lt-ltb, le-ltb, eqb-true, eq-eqb, ne-eqb}
 use Rattle.book.specs.Number.{byteAt, digitOf, digitAt, endedAt, digitsAt, numberAt, fieldNext}
 use Rattle.book.specs.declared.text.Field.{Field}
@@ -60,13 +60,13 @@ module _ (text : List ℕ) (at v end : ℕ) where
       let k : 6 - n ≡ suc (6 - (n + 1)) = omega arith in
       ap (λ (m : ℕ). digitsAt m text at v end) k ∙ digits-more (6 - (n + 1)) h
 
--- a number below a power of ten, with one digit more, is below the next power
-pub ten-more : (n v d : ℕ) → v < 10 ^ n → d < 10 → v * 10 + d < 10 ^ (n + 1)
-ten-more n v d h l = rw (add-one, pow-suc) (omega arith)
+-- a number below a power of the base, with one digit more, is below the next power
+pub base-more : {base : ℕ} (n v d : ℕ) → v < base ^ n → d < base → v * base + d < base ^ (n + 1)
+base-more {base} n v d h l = rw (add-one, pow-suc) (omega (arith, mul-le-mul-right base h, suc-mul v base))
 
 -- a number of at most m digits has at most n, where n is not smaller
-pub power-wide : (m n v : ℕ) → m ≤ n → v < 10 ^ m → v < 10 ^ n
-power-wide m n v l h = lt-of-lt-of-le h (pow-le-pow-right {n = 10} (lit< tt) {i = m} {j = n} l)
+pub power-wide : {base : ℕ} (m n v : ℕ) → 0 < base → m ≤ n → v < base ^ m → v < base ^ n
+power-wide m n v some l h = lt-of-lt-of-le h (pow-le-pow-right some {i = m} {j = n} l)
 
 module _ (text : List ℕ) (at end : ℕ) where
   -- no number starts where no digit stands

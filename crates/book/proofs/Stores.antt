@@ -5,27 +5,20 @@ use mathlib.Core.Path.{_≡_, refl, sym, ap, _∙_}
 use mathlib.Core.List.{List, [], _∷_, _++_}
 use native.Mathlib.Omega.{arith}
 use native.Mathlib.Numerals.{add-one}
-use lib.ListN.{length, drop, set, length-append}
-use lib.Seq.{sets, sets-eq}
+use lib.ListN.{length, getD, take, drop, set, length-append, drop-of-length-le}
+use lib.Seq.{sets, sets-eq, drop-cons, set-at, take-at, append-snoc, take-suc, length-take-le}
 use Rattle.book.specs.Number.{numberAt, fieldValue, fieldNext}
 use Rattle.book.specs.Name.{nameAt}
 use Rattle.book.specs.Contents.{afterHeading}
 use Rattle.book.specs.Body.{cardNumbers, endOf, numbersAt, afterNumbers}
-use Rattle.book.specs.Book.{mostCurves, curveWidth, leastList, afterHeadings, entryAt, entriesFrom}
+use Rattle.book.specs.Book.{mostCurves, curveWidth, leastList, entryAt, entriesFrom, entriesOf}
+use Rattle.book.specs.Reading.{headingsFrom, entriesBy}
 use Rattle.book.specs.declared.text.Field.{Field}
-use Rattle.book.proofs.Places.{none-left, field-next-in}
-use Rattle.book.proofs.LineLaws.{end-above, after-in}
+use Rattle.book.proofs.Places.{none-left}
 
 module _ (text : List ℕ) (at k end : ℕ) (more : 0 < k) (ends : end ≡ endOf (k - 1)) (f : Field) (read : f ≡ numberAt text at end) where
   read-is : numberAt text at (endOf (k - 1)) ≡ f
   read-is = ap (numberAt text at) (sym ends) ∙ sym read
-
-  -- the place after the next number
-  pub after-numbers-turn : {next : ℕ} → next ≡ fieldNext at f → afterNumbers k text at ≡ afterNumbers (k - 1) text next
-  unfolding afterNumbers
-  after-numbers-turn e =
-      let p : k ≡ suc (k - 1) = omega arith in
-      ap (λ (m : ℕ). afterNumbers m text at) p ∙ ap (afterNumbers (k - 1) text) (ap (fieldNext at) read-is ∙ sym e)
 
   -- one number stored
   pub stores-turn : (l : List ℕ) (out : ℕ) {value next : ℕ} → value ≡ fieldValue f → next ≡ fieldNext at f
@@ -34,11 +27,6 @@ module _ (text : List ℕ) (at k end : ℕ) (more : 0 < k) (ends : end ≡ endOf
   stores-turn l out v e =
       let p : k ≡ suc (k - 1) = omega arith in
       ap (λ (m : ℕ). sets l out (numbersAt m text at)) p ∙ rw (read-is, v, e, add-one out)
-
--- after the last number, the place itself
-pub after-numbers-none : (text : List ℕ) (at k : ℕ) → k ≤ 0 → afterNumbers k text at ≡ at
-unfolding afterNumbers
-after-numbers-none text at = none-left (λ k. afterNumbers k text at)
 
 -- after the last number, no store
 pub stores-none : (text : List ℕ) (at : ℕ) (l : List ℕ) (out k : ℕ) → k ≤ 0 → sets l out (numbersAt k text at) ≡ l
@@ -49,13 +37,6 @@ numbers-length : (k : ℕ) (text : List ℕ) (at : ℕ) → length (numbersAt k 
 unfolding numbersAt
 numbers-length zero text at = refl
 numbers-length (suc k) text at = ap suc (numbers-length k text (fieldNext at (numberAt text at (endOf k))))
-
--- the place after a body lies inside the text or at its end
-pub after-numbers-in : (k : ℕ) (text : List ℕ) (at : ℕ) → at ≤ length text → afterNumbers k text at ≤ length text
-unfolding afterNumbers
-after-numbers-in zero text at h = h
-after-numbers-in (suc k) text at h =
-    after-numbers-in k text (fieldNext at (numberAt text at (endOf k))) (field-next-in text (endOf k) (end-above k) at h)
 
 -- the ten numbers of a curve stored: place, size, and the eight numbers
 pub entry-stores : (text : List ℕ) (heading body : ℕ) (l : List ℕ) (out n : ℕ) → n ≡ nameAt text heading
@@ -79,22 +60,28 @@ sets-append (x ∷ xs) ys l i =
     let z : suc i + length xs ≡ i + suc (length xs) = omega arith in
     sets-append xs ys (set l i x) (suc i) ∙ ap (λ (k : ℕ). sets (sets (set l i x) (suc i) xs) k ys) z
 
-module _ (text : List ℕ) (heading body : ℕ) (l : List ℕ) (out : ℕ) where
+module _ (text places : List ℕ) (i body : ℕ) (l : List ℕ) (out : ℕ) where
   -- after the last curve, no store
-  pub entries-none : (k : ℕ) → k ≤ 0 → sets l out (entriesFrom k text heading body) ≡ l
-  unfolding entriesFrom
-  entries-none = none-left (λ k. sets l out (entriesFrom k text heading body))
+  pub entries-none : length places ≤ i → sets l out (entriesBy text (drop i places) body) ≡ l
+  unfolding entriesBy
+  entries-none h = rw (drop-of-length-le places h)
 
   -- one curve stored
-  pub entries-turn : (k : ℕ) {stored : List ℕ} {heading′ body′ : ℕ} → 0 < k → stored ≡ sets l out (entryAt text heading body)
-      → heading′ ≡ afterHeading text heading → body′ ≡ afterNumbers cardNumbers text body
-      → sets l out (entriesFrom k text heading body) ≡ sets stored (out + curveWidth) (entriesFrom (k - 1) text heading′ body′)
-  unfolding entriesFrom
-  entries-turn zero h s e f = absurd (omega arith)
-  entries-turn (suc k) h s e f =
-      let p : suc k - 1 ≡ k = omega arith in
-      sets-append (entryAt text heading body) _ l out
-      ∙ rw (entry-length text heading body, p, s, e, f)
+  pub entries-turn : {stored : List ℕ} {body′ : ℕ} → i < length places → stored ≡ sets l out (entryAt text (getD places i 0) body)
+      → body′ ≡ afterNumbers cardNumbers text body
+      → sets l out (entriesBy text (drop i places) body) ≡ sets stored (out + curveWidth) (entriesBy text (drop (i + 1) places) body′)
+  unfolding entriesBy
+  entries-turn h s f =
+      ap (λ (r : List ℕ). sets l out (entriesBy text r body)) (drop-cons places i 0 h)
+      ∙ sets-append (entryAt text (getD places i 0) body) _ l out
+      ∙ rw (entry-length text (getD places i 0) body, s, f, add-one i)
+
+-- by the places of the contents lines, or by going through them, the numbers are the same
+pub entries-by : (k : ℕ) (text : List ℕ) (heading body : ℕ) → entriesBy text (headingsFrom k text heading) body ≡ entriesFrom k text heading body
+unfolding entriesBy headingsFrom entriesFrom
+entries-by zero text heading body = refl
+entries-by (suc k) text heading body =
+    ap (λ (r : List ℕ). entryAt text heading body ++ r) (entries-by k text (afterHeading text heading) (afterNumbers cardNumbers text body))
 
 entries-length : (k : ℕ) (text : List ℕ) (heading body : ℕ) → length (entriesFrom k text heading body) ≡ curveWidth * k
 unfolding entriesFrom
@@ -111,20 +98,23 @@ entries-list text heading body n l h k =
     let e : 0 + length (entriesFrom n text heading body) ≡ curveWidth * n = omega (arith, entries-length n text heading body) in
     sets-eq (entriesFrom n text heading body) l 0 (omega arith) ∙ ap (λ (m : ℕ). entriesFrom n text heading body ++ drop m l) e
 
-module _ (text : List ℕ) where
-  -- after the last contents line, the place itself
-  pub headings-none : (at k : ℕ) → k ≤ 0 → afterHeadings k text at ≡ at
-  unfolding afterHeadings
-  headings-none at = none-left (λ k. afterHeadings k text at)
+-- one number copied
+pub copy-turn : (draft list : List ℕ) (i : ℕ) → i < length draft → i < length list
+    → set (take i draft ++ drop i list) i (getD draft i 0) ≡ take (i + 1) draft ++ drop (i + 1) list
+copy-turn draft list i here there =
+    let v : ℕ = getD draft i 0 in
+    ap (λ (r : List ℕ). set (take i draft ++ r) i v) (drop-cons list i 0 there)
+    ∙ set-at (take i draft) _ (drop (suc i) list) v i (length-take-le i draft (omega arith))
+    ∙ sym (append-snoc (take i draft) v (drop (suc i) list))
+    ∙ ap (λ (r : List ℕ). r ++ drop (suc i) list) (sym (take-suc draft i 0 here))
+    ∙ ap (λ (k : ℕ). take k draft ++ drop k list) (sym (add-one i))
 
-  -- the place after the next contents line
-  pub headings-turn : (at k : ℕ) → 0 < k → afterHeadings k text at ≡ afterHeadings (k - 1) text (afterHeading text at)
-  unfolding afterHeadings
-  headings-turn at zero h = absurd (omega arith)
-  headings-turn at (suc k) h = let p : suc k - 1 ≡ k = omega arith in rw p
-
-  -- the place after the contents lies inside the text or at its end
-  pub headings-in : (k at : ℕ) → at ≤ length text → afterHeadings k text at ≤ length text
-  unfolding afterHeadings
-  headings-in zero at h = h
-  headings-in (suc k) at h = headings-in k (afterHeading text at) (after-in text at h)
+-- the curves that were drafted are the draft's first 10 × n numbers
+pub drafted : (text : List ℕ) (n : ℕ) (before after list : List ℕ) → n ≤ mostCurves → leastList ≤ length before
+    → after ≡ sets before 0 (entriesOf text n) → take (curveWidth * n) after ++ drop (curveWidth * n) list ≡ entriesOf text n ++ drop (curveWidth * n) list
+unfolding entriesOf
+drafted text n before after list few long e =
+    let entries : List ℕ = entriesOf text n in
+    let size : length entries ≡ curveWidth * n = entries-length n text _ _ in
+    ap (λ (r : List ℕ). r ++ drop (curveWidth * n) list)
+    (ap (take (curveWidth * n)) (e ∙ entries-list text _ _ n before few long) ∙ take-at entries _ (curveWidth * n) size)

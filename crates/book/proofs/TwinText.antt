@@ -23,14 +23,14 @@ no-blank b h e = false≢true (ap isNameByte (sym e) ∙ h)
 
 module _ (text : List ℕ) where
   -- the first bytes and the rest of two places
-  same-head : (n a b : ℕ) → sameBytes (suc n) text a b ≡ true
+  pub same-head : (n a b : ℕ) → sameBytes (suc n) text a b ≡ true
       → (byteAt text a ≡ byteAt text b) × (sameBytes n text (a + 1) (b + 1) ≡ true)
   unfolding sameBytes
   same-head n a b =
       cond-case (λ (t : Bool). t ≡ true → (byteAt text a ≡ byteAt text b) × (sameBytes n text (a + 1) (b + 1) ≡ true))
       (eqb (byteAt text a) (byteAt text b)) _ _ (λ t s. (eqb-true _ _ t, s)) (λ t s. absurd (false≢true s))
 
-  same-cons : (n a b : ℕ) → byteAt text a ≡ byteAt text b → sameBytes n text (a + 1) (b + 1) ≡ true → sameBytes (suc n) text a b ≡ true
+  pub same-cons : (n a b : ℕ) → byteAt text a ≡ byteAt text b → sameBytes n text (a + 1) (b + 1) ≡ true → sameBytes (suc n) text a b ≡ true
   unfolding sameBytes
   same-cons n a b e s = rw (eq-eqb _ _ e) s
 

@@ -11,7 +11,7 @@ use borrow.Author.Tests.{leb-true, le-leb, ltb-true, ltb-false, eqb-true, eqb-fa
 use Rattle.book.specs.Number.{numberAt, fieldValue}
 use Rattle.book.specs.Name.{twinAt}
 use Rattle.book.specs.Contents.{headingAt, contentsLineOf, contentsLine}
-use Rattle.book.specs.Body.{cardNumbers, endOf, fieldThen, bodyFrom, numbersAt}
+use Rattle.book.specs.Body.{cardNumbers, bodyFrom, numbersAt}
 use Rattle.book.specs.Book.{mostCurves, mostBytes, acceptedOf, refusedOf, lineThen, bodiesFrom, contentsFrom, countThen, textReply}
 use Rattle.book.specs.Printed.{numberText, contentsText, bodyText}
 use Rattle.book.specs.LineMeaning.{Starts, Named, LineTheorem}
@@ -24,6 +24,7 @@ use Rattle.book.specs.declared.lines.Line.{Line}
 use Rattle.book.specs.declared.lines.Line.the-variants.{Next, Fault}
 use Rattle.book.specs.declared.BookReply.{BookReply}
 use Rattle.book.proofs.Places.{cond-case}
+use Rattle.book.proofs.LineLaws.{Faults26, body-26}
 use Rattle.book.proofs.Replies.{line-case}
 use Rattle.book.proofs.Outcomes.{IsValue, IsEntry, IsNext}
 use Rattle.book.proofs.Standing.{starts-stands, stands-starts, name-starts, stands-in}
@@ -33,20 +34,6 @@ use Rattle.book.proofs.RightLines.{right-count, right-name, right-body,
 -- what a reply says of the lines of a text
 abbrev MeantBy : List ℕ → BookReply → Type 0
 MeantBy text reply = SaysOfLines text (reply .line) (reply .number)
-
--- a body's only fault is 26
-abbrev Faults26 : Line → Type 0
-Faults26 (Next p) = Unit
-Faults26 (Fault f) = f ≡ 26
-
-field-26 : (f : Field) (go : ℕ → Line) → ((p : ℕ) → Faults26 (go p)) → Faults26 (fieldThen f go)
-field-26 (Value v next) go h = h next
-field-26 NoValue go h = refl
-
-body-26 : (k : ℕ) (text : List ℕ) (at : ℕ) → Faults26 (bodyFrom k text at)
-unfolding bodyFrom
-body-26 zero text at = tt
-body-26 (suc k) text at = field-26 (numberAt text at (endOf k)) (bodyFrom k text) (λ p. body-26 k text p)
 
 module _ (lines : LineTheorem) (text : List ℕ) where
   -- the last k bodies

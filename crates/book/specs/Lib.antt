@@ -3,6 +3,7 @@ pub mod Name
 pub mod Contents
 pub mod Body
 pub mod Book
+pub mod Reading
 pub mod Printed
 pub mod LineMeaning
 pub mod Cards

@@ -6,7 +6,7 @@ mod text;
 
 use crate::reply::refused;
 use crate::reply::text_reply;
-use crate::store::store_curves;
+use crate::store::copy_numbers;
 use runoff::Card;
 ghost use mathlib.Core.Path.{_≡_};
 ghost use lib.ListN.{length, getD};
@@ -45,13 +45,14 @@ pub fn read_book(text: &[u8], list: &mut [u32]) -> BookReply
     if list.len() < LEAST_LIST {
         return refused(28, 0);
     }
-    let reply = text_reply(text);
+    let mut draft = [0u32; LEAST_LIST];
+    let reply = text_reply(text, &mut draft);
     let number = reply.number;
     if number != 0 {
         return reply;
     }
-    let count = reply.count;
-    store_curves(text, count, list);
+    let count = reply.count as usize;
+    copy_numbers(&draft, CURVE_WIDTH * count, list);
     reply
 }
 

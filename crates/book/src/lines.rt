@@ -3,14 +3,14 @@ use crate::CARD_NUMBERS;
 use crate::text::Field;
 use crate::text::name_size;
 use crate::text::read_number;
-use crate::text::same_bytes;
 ghost use mathlib.Core.Path.{_≡_};
-ghost use Prim.Native.Nat.{_+_, _≤_};
+ghost use Prim.Native.Nat.{ℕ, _+_, _≤_};
 ghost use lib.ListN.{length};
-ghost use Rattle.book.specs.Name.{twinAt};
-ghost use Rattle.book.specs.Contents.{headingAt, afterHeading, contentsLine};
-ghost use Rattle.book.specs.Body.{cardNumbers, endOf, bodyFrom};
-ghost use Rattle.book.specs.Book.{mostBytes};
+ghost use lib.Seq.{sets};
+ghost use Rattle.book.specs.Contents.{headingAt};
+ghost use Rattle.book.specs.Body.{cardNumbers, endOf, bodyFrom, numbersAt};
+ghost use Rattle.book.specs.Book.{mostBytes, curveWidth, entryAt};
+ghost use Rattle.book.specs.Reading.{among, lineBy};
 
 // A contents line: the size of its name, its number, and the place after it.
 pub(crate) enum Heading {
@@ -44,32 +44,13 @@ fn read_heading(text: &[u8], at: usize) -> Heading
     }
 }
 
-// The place after a contents line; after a malformed one, its own.
-pub(crate) fn after_heading(text: &[u8], at: usize) -> usize
-    requires { ⌜ at ≤ length (now text) ⌝ }
-    ensures { λ r. ⌜ r ≡ afterHeading (now (text .entry)) at ⌝ }
-{
-    let heading = read_heading(text, at);
-    match heading {
-        Heading::Entry {
-            size: _,
-            value: _,
-            next,
-        } => next,
-        Heading::NoEntry => at,
-    }
-}
-
-// Whether the name of `size` bytes at a place stands at one of the places `earlier`.
-fn twin(text: &[u8], earlier: &[u32], at: usize, size: usize) -> bool
-    requires { ⌜ (length (now text) ≤ mostBytes) × (at + size ≤ length (now text)) ⌝ }
-    ensures { λ r. ⌜ r ≡ twinAt (now (text .entry)) (now (earlier .entry)) at size ⌝ }
+// Whether a key is one of these.
+fn is_among(keys: &[u64], key: u64) -> bool
+    ensures { λ r. ⌜ r ≡ among (now (keys .entry)) key ⌝ }
 {
     let mut i: usize = 0;
-    while i < earlier.len() {
-        let place = earlier[i] as usize;
-        let same = same_bytes(text, place, at, size + 1);
-        if same {
+    while i < keys.len() {
+        if keys[i] == key {
             return true;
         }
         i = i + 1;
@@ -77,20 +58,24 @@ fn twin(text: &[u8], earlier: &[u32], at: usize, size: usize) -> bool
     false
 }
 
-// A contents line that must name the line `due`; `earlier` has the places of the names before.
-pub(crate) fn contents_line(text: &[u8], earlier: &[u32], at: usize, due: u32) -> Line
-    requires { ⌜ (length (now text) ≤ mostBytes) × (at ≤ length (now text)) ⌝ }
-    ensures { λ r. ⌜ r ≡ contentsLine (now (text .entry)) (now (earlier .entry)) at due ⌝ }
+// A contents line that must name the line `due`; its name has this key, and `keys` are those of the names before.
+pub(crate) fn contents_line(text: &[u8], keys: &[u64], key: u64, at: usize, due: u32) -> Line
+    requires { ⌜ at ≤ length (now text) ⌝ }
+    ensures { λ r. ⌜ r ≡ lineBy (now (keys .entry)) key due (headingAt (now (text .entry)) at) ⌝ }
 {
     let heading = read_heading(text, at);
     match heading {
         Heading::NoEntry => Line::Fault(23),
-        Heading::Entry { size, value, next } => {
+        Heading::Entry {
+            size: _,
+            value,
+            next,
+        } => {
             if value != due {
                 return Line::Fault(24);
             }
-            let same = twin(text, earlier, at, size);
-            if same {
+            let twin = is_among(keys, key);
+            if twin {
                 return Line::Fault(25);
             }
             Line::Next(next)
@@ -99,25 +84,30 @@ pub(crate) fn contents_line(text: &[u8], earlier: &[u32], at: usize, due: u32) -
 }
 
 // The byte after a number of a body, with `left` numbers after it.
-pub(crate) fn end_byte(left: u32) -> u8
+fn end_byte(left: u32) -> u8
     ensures { λ r. ⌜ r ≡ endOf left ⌝ }
 {
     if left == 0 { 10 } else { 32 }
 }
 
-// A body: eight numbers with one blank between.
-pub(crate) fn body(text: &[u8], from: usize) -> Line
+// A body: eight numbers with one blank between, which are drafted from the place `start` on.
+pub(crate) fn body(text: &[u8], from: usize, draft: &mut [u32], start: usize) -> Line
     requires { ⌜ from ≤ length (now text) ⌝ }
+    requires { ⌜ start + cardNumbers ≤ length (now draft) ⌝ }
     ensures { λ r. ⌜ r ≡ bodyFrom cardNumbers (now (text .entry)) from ⌝ }
+    ensures { λ r. ⌜ ((p : ℕ) → r ≡ Line.Next p → now (draft .exit) ≡ sets (now (draft .entry)) start (numbersAt cardNumbers (now (text .entry)) from)) ⌝ }
 {
     let mut at = from;
+    let mut out = start;
     let mut left = CARD_NUMBERS;
     while 0 < left {
         left = left - 1;
         let end = end_byte(left);
         let field = read_number(text, at, end);
         match field {
-            Field::Value { value: _, next } => {
+            Field::Value { value, next } => {
+                draft[out] = value;
+                out = out + 1;
                 at = next;
             }
             Field::NoValue => {
@@ -126,4 +116,19 @@ pub(crate) fn body(text: &[u8], from: usize) -> Line
         }
     }
     Line::Next(at)
+}
+
+// The ten numbers of a curve, whose contents line stands at `heading` and whose body at `from`, drafted from the place `out` on.
+pub(crate) fn curve(text: &[u8], heading: usize, from: usize, draft: &mut [u32], out: usize) -> Line
+    requires { ⌜ length (now text) ≤ mostBytes ⌝ }
+    requires { ⌜ heading ≤ length (now text) ⌝ }
+    requires { ⌜ from ≤ length (now text) ⌝ }
+    requires { ⌜ out + curveWidth ≤ length (now draft) ⌝ }
+    ensures { λ r. ⌜ r ≡ bodyFrom cardNumbers (now (text .entry)) from ⌝ }
+    ensures { λ r. ⌜ ((p : ℕ) → r ≡ Line.Next p → now (draft .exit) ≡ sets (now (draft .entry)) out (entryAt (now (text .entry)) heading from)) ⌝ }
+{
+    let size = name_size(text, heading);
+    draft[out] = heading as u32;
+    draft[out + 1] = size as u32;
+    body(text, from, draft, out + 2)
 }

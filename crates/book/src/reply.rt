@@ -1,19 +1,23 @@
 // The reply to a text: the lines in order, the first at fault.
 use crate::BookReply;
+use crate::CURVE_WIDTH;
 use crate::MOST_BYTES;
 use crate::MOST_CURVES;
 use crate::lines::Line;
-use crate::lines::body;
 use crate::lines::contents_line;
+use crate::lines::curve;
 use crate::text::Field;
+use crate::text::name_key;
 use crate::text::read_number;
 ghost use mathlib.Core.Path.{_≡_};
-ghost use Prim.Native.Nat.{_≤_};
+ghost use Prim.Native.Nat.{ℕ, _≤_};
 ghost use mathlib.Core.List.{[]};
-ghost use lib.ListN.{length};
-ghost use Rattle.book.specs.Book.{mostCurves, mostBytes, bodiesFrom, contentsFrom, textReply, refusedOf};
+ghost use lib.ListN.{length, getD};
+ghost use lib.Seq.{sets};
+ghost use Rattle.book.specs.Book.{mostCurves, mostBytes, leastList, bodiesFrom, contentsFrom, textReply, refusedOf, afterHeadings, entriesFrom, entriesOf};
+ghost use Rattle.book.specs.Reading.{entriesBy};
 
-// Room for the place of each name.
+// Room for the place and the key of each name.
 const PLACES: usize = 64;
 
 // A refused book: its number, count 0 and the line.
@@ -27,15 +31,20 @@ pub(crate) fn refused(number: u32, line: u32) -> BookReply
     }
 }
 
-// The n bodies, and the end of the text after them.
-fn bodies(text: &[u8], n: u32, from: usize) -> BookReply
-    requires { ⌜ (n ≤ mostCurves) × (from ≤ length (now text)) ⌝ }
+// The n bodies, and the end of the text after them. The curves are drafted; `places` are those of their contents lines.
+fn bodies(text: &[u8], n: u32, from: usize, places: &[u32], draft: &mut [u32]) -> BookReply
+    requires { ⌜ (n ≤ mostCurves) × ((length (now text) ≤ mostBytes) × (from ≤ length (now text))) ⌝ }
+    requires { ⌜ (length (now places) ≡ n) × ((i : ℕ) → getD (now places) i 0 ≤ length (now text)) ⌝ }
+    requires { ⌜ leastList ≤ length (now draft) ⌝ }
     ensures { λ r. ⌜ r ≡ bodiesFrom n (now (text .entry)) n 0 from ⌝ }
+    ensures { λ r. ⌜ (r .number ≡ 0 → (r .count ≡ n) × (now (draft .exit) ≡ sets (now (draft .entry)) 0 (entriesBy (now (text .entry)) (now (places .entry)) from))) ⌝ }
 {
     let mut at = from;
     let mut i: u32 = 0;
     while i < n {
-        let line = body(text, at);
+        let k = i as usize;
+        let heading = places[k] as usize;
+        let line = curve(text, heading, at, draft, CURVE_WIDTH * k);
         match line {
             Line::Next(next) => {
                 at = next;
@@ -56,19 +65,24 @@ fn bodies(text: &[u8], n: u32, from: usize) -> BookReply
     refused(27, n + n + 2)
 }
 
-// The n contents lines, and what follows them. The places of their names are kept for the twin test.
-fn contents(text: &[u8], n: u32, first: usize) -> BookReply
+// The n contents lines, and what follows them. The places of their names are kept for the draft, and their keys for the twin test.
+fn contents(text: &[u8], n: u32, first: usize, draft: &mut [u32]) -> BookReply
     requires { ⌜ (n ≤ mostCurves) × ((length (now text) ≤ mostBytes) × (first ≤ length (now text))) ⌝ }
+    requires { ⌜ leastList ≤ length (now draft) ⌝ }
     ensures { λ r. ⌜ r ≡ contentsFrom n (now (text .entry)) n [] first ⌝ }
+    ensures { λ r. ⌜ (r .number ≡ 0 → (r .count ≡ n) × (now (draft .exit) ≡ sets (now (draft .entry)) 0 (entriesFrom n (now (text .entry)) first (afterHeadings n (now (text .entry)) first)))) ⌝ }
 {
+    let mut keys = [0u64; PLACES];
     let mut places = [0u32; PLACES];
     let mut at = first;
     let mut i: u32 = 0;
     while i < n {
         let used = i as usize;
-        let line = contents_line(text, &places[..used], at, n + i + 2);
+        let key = name_key(text, at);
+        let line = contents_line(text, &keys[..used], key, at, n + i + 2);
         match line {
             Line::Next(next) => {
+                keys[used] = key;
                 places[used] = at as u32;
                 at = next;
             }
@@ -78,12 +92,15 @@ fn contents(text: &[u8], n: u32, first: usize) -> BookReply
         }
         i = i + 1;
     }
-    bodies(text, n, at)
+    let count = n as usize;
+    bodies(text, n, at, &places[..count], draft)
 }
 
-// The reply to a text, where the list is long enough.
-pub(crate) fn text_reply(text: &[u8]) -> BookReply
+// The reply to a text, where the list is long enough. Of an accepted text the curves stand in the draft afterwards.
+pub(crate) fn text_reply(text: &[u8], draft: &mut [u32]) -> BookReply
+    requires { ⌜ leastList ≤ length (now draft) ⌝ }
     ensures { λ r. ⌜ r ≡ textReply (now (text .entry)) ⌝ }
+    ensures { λ r. ⌜ (r .number ≡ 0 → now (draft .exit) ≡ sets (now (draft .entry)) 0 (entriesOf (now (text .entry)) (r .count))) ⌝ }
 {
     if text.len() == 0 {
         return refused(21, 0);
@@ -101,7 +118,7 @@ pub(crate) fn text_reply(text: &[u8]) -> BookReply
             if MOST_CURVES < value {
                 return refused(22, 1);
             }
-            contents(text, value, next)
+            contents(text, value, next, draft)
         }
     }
 }

@@ -2,8 +2,9 @@
 ghost use mathlib.Core.Path.{_≡_};
 ghost use Prim.Native.Nat.{_≤_, _<_};
 ghost use lib.ListN.{length};
-ghost use Rattle.book.specs.Number.{byteAt, digitAt, endedAt, digitsAt, numberAt, fieldValue, fieldNext};
-ghost use Rattle.book.specs.Name.{isNameByte, nameRun, nameAt, sameBytes};
+ghost use Rattle.book.specs.Number.{byteAt, digitAt, endedAt, digitsAt, numberAt};
+ghost use Rattle.book.specs.Name.{isNameByte, nameRun, nameAt};
+ghost use Rattle.book.specs.Reading.{keyAt};
 
 // A number and the place after the byte that ends it.
 pub(crate) enum Field {
@@ -129,42 +130,21 @@ pub(crate) fn name_size(text: &[u8], at: usize) -> usize
     if b == 32 { n } else { 0 }
 }
 
-// Whether the n bytes at two places are the same.
-pub(crate) fn same_bytes(text: &[u8], first: usize, second: usize, n: usize) -> bool
-    requires { ⌜ (first < 4294967296) × ((second < 4294967296) × (n < 4294967296)) ⌝ }
-    ensures { λ r. ⌜ r ≡ sameBytes n (now (text .entry)) first second ⌝ }
+// The bytes of the name at a place, as one number: two names have the same one only where they are the same.
+pub(crate) fn name_key(text: &[u8], from: usize) -> u64
+    requires { ⌜ from ≤ length (now text) ⌝ }
+    ensures { λ r. ⌜ r ≡ keyAt (now (text .entry)) from ⌝ }
 {
-    let mut a = first;
-    let mut b = second;
-    let mut left = n;
-    while 0 < left {
-        let x = byte_at(text, a);
-        let y = byte_at(text, b);
-        if x != y {
-            return false;
+    let mut key: u64 = 0;
+    let mut n: usize = 0;
+    while n < 8 {
+        let more = name_byte_at(text, from + n);
+        if !more {
+            return key;
         }
-        a = a + 1;
-        b = b + 1;
-        left = left - 1;
+        let b = byte_at(text, from + n);
+        key = key * 256 + b as u64;
+        n = n + 1;
     }
-    true
-}
-
-// A number's value, and the place after it; where there is none, 0 and the same place.
-pub(crate) fn field_value(f: Field) -> u32
-    ensures { λ r. ⌜ r ≡ fieldValue f ⌝ }
-{
-    match f {
-        Field::Value { value, next: _ } => value,
-        Field::NoValue => 0,
-    }
-}
-
-pub(crate) fn field_next(at: usize, f: Field) -> usize
-    ensures { λ r. ⌜ r ≡ fieldNext at f ⌝ }
-{
-    match f {
-        Field::Value { value: _, next } => next,
-        Field::NoValue => at,
-    }
+    key
 }

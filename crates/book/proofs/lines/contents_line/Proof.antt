@@ -1,8 +1,9 @@
 -- `book::lines::contents_line` meets its contract.
 -- Assumes nothing.
-use mathlib.Core.Path.{sym, _∙_}
+use mathlib.Core.Path.{sym, ap, _∙_}
 use borrow.Author.Needs.{needs}
-use Rattle.book.proofs.LineLaws.{heading-size, line-malformed, line-wrong, line-twin, line-good}
+use borrow.Author.Tests.{eq-eqb, ne-eqb}
+use Rattle.book.specs.Reading.{lineBy}
 use Rattle.book.proofs.lines.contents_line.Statement.{statement}
 use Rattle.book.proofs.lines.contents_line.Tie as tie
 
@@ -19,31 +20,29 @@ returns : tie.Need-returns
 returns c =
     let a = c .before .before .before .before .before .before .before .args in
     let e = sym (c .before .before .before .before .read-heading .ensures) ∙ c .before .before .heading .given .1 in
-    sym (line-wrong (a .text .now) (a .earlier .now) (a .at) (a .due) e (c .if1 .taken))
+    sym (ap (lineBy (a .keys .now) (a .key) (a .due)) e ∙ simp (ne-eqb _ _ (c .if1 .taken)))
 
-twin-requires : tie.Need-twin-requires
-twin-requires c κs =
-    let a = c .before .before .before .before .before .before .before .args in
-    let e = sym (c .before .before .before .before .read-heading .ensures) ∙ c .before .before .heading .given .1 in
-    (search needs, heading-size (a .text .now) (a .at) e)
+is-among-requires : tie.Need-is-among-requires
+is-among-requires c κs = search needs
 
 returns-2 : tie.Need-returns-2
 returns-2 c =
     let a = c .before .before .before .before .before .before .before .before .before .args in
     let e = sym (c .before .before .before .before .before .before .read-heading .ensures) ∙ c .before .before .before .before .heading .given .1 in
-    sym (line-twin (a .text .now) (a .earlier .now) (a .at) (a .due) e (c .before .before .if1 .left) (sym (c .before .twin .ensures) ∙ c .if2 .taken))
+    sym (ap (lineBy (a .keys .now) (a .key) (a .due)) e
+    ∙ simp (eq-eqb _ _ (c .before .before .if1 .left), sym (c .before .is-among .ensures) ∙ c .if2 .taken))
 
 returns-3 : tie.Need-returns-3
 returns-3 c =
     let a = c .before .before .before .before .before .args in
-    let e = sym (c .before .before .read-heading .ensures) ∙ c .enum-told .given .1 in
-    sym (line-malformed (a .text .now) (a .earlier .now) (a .at) (a .due) e)
+    ap (lineBy (a .keys .now) (a .key) (a .due)) (sym (c .enum-told .given .1) ∙ c .before .before .read-heading .ensures)
 
 returns-4 : tie.Need-returns-4
 returns-4 c =
     let a = c .before .before .before .before .before .before .before .before .before .args in
     let e = sym (c .before .before .before .before .before .before .read-heading .ensures) ∙ c .before .before .before .before .heading .given .1 in
-    sym (line-good (a .text .now) (a .earlier .now) (a .at) (a .due) e (c .before .before .if1 .left) (sym (c .before .twin .ensures) ∙ c .if2 .left))
+    sym (ap (lineBy (a .keys .now) (a .key) (a .due)) e
+    ∙ simp (eq-eqb _ _ (c .before .before .if1 .left), sym (c .before .is-among .ensures) ∙ c .if2 .left))
 
 pub contents-line-spec : {M : Type 1} → statement M
 contents-line-spec =
@@ -53,7 +52,7 @@ contents-line-spec =
     enum-told
     enum-known-heading
     returns
-    twin-requires
+    is-among-requires
     returns-2
     returns-3
     returns-4)

@@ -4,9 +4,10 @@ use native.Mathlib.Omega.{arith}
 use Prim.Native.Nat.{ℕ, _+_, _-_, _*_, _^_, _≤_, _<_}
 use mathlib.Core.Path.{_≡_, refl, sym, ap, _∙_}
 use lib.ListN.{length}
+use lib.Dec.{lit<}
 use borrow.Author.Needs.{needs}
 use Rattle.book.specs.Number.{digitAt, digitsAt}
-use Rattle.book.proofs.Places.{digit-inside, digits-stop, digits-none, digits-turn, ten-more, power-wide}
+use Rattle.book.proofs.Places.{digit-inside, digits-stop, digits-none, digits-turn, base-more, power-wide}
 use Rattle.book.proofs.text.digits.Statement.{statement}
 use Rattle.book.proofs.text.digits.Tie as tie
 
@@ -37,10 +38,10 @@ returns c =
     ∙ sym (l .inv .1 .1 .1 ∙ digits-stop (a .text .now) (l .at) (l .value) (a .end) (6 - l .n) (omega arith))
 
 mul-value : tie.Need-mul-value Inv-loop μ-loop
-mul-value c = let l = c .before .before .before .loop in omega (arith, power-wide (l .n + 1) 7 (l .value) (omega arith) (l .inv .1 .1 .0))
+mul-value c = let l = c .before .before .before .loop in omega (arith, power-wide (l .n + 1) 7 (l .value) (lit< tt) (omega arith) (l .inv .1 .1 .0))
 
 add-value : tie.Need-add-value Inv-loop μ-loop
-add-value c = let l = c .before .before .before .loop in omega (arith, power-wide (l .n + 1) 7 (l .value) (omega arith) (l .inv .1 .1 .0))
+add-value c = let l = c .before .before .before .loop in omega (arith, power-wide (l .n + 1) 7 (l .value) (lit< tt) (omega arith) (l .inv .1 .1 .0))
 
 add-at : tie.Need-add-at Inv-loop μ-loop
 add-at c = search needs
@@ -61,7 +62,7 @@ loop-again c =
       (
         omega (arith, digit-inside s (l .at) d),
         (
-          ten-more (l .n + 1) (l .value) _ (l .inv .1 .1 .0) (omega arith),
+          base-more (l .n + 1) (l .value) _ (l .inv .1 .1 .0) (omega arith),
           l .inv .1 .1 .1
               ∙ digits-turn s (l .at) (l .value) (a .end) (l .n) (c .before .before .loop-test .taken) d
               ∙ ap (λ (x : ℕ). digitsAt (6 - (l .n + 1)) s (l .at + 1) (l .value * 10 + x) (a .end)) (sym (c .before .digit-at .ensures)),

@@ -1,0 +1,118 @@
+-- `book::text::name_key` meets its contract.
+-- Assumes nothing.
+use native.Mathlib.Omega.{arith}
+use Prim.Native.Nat.{ℕ, _+_, _-_, _^_, _≤_, _<_}
+use mathlib.Core.Path.{_≡_, refl, sym, ap, _∙_}
+use mathlib.Core.Bool.{true}
+use lib.ListN.{length}
+use lib.Dec.{lit<}
+use borrow.Author.Tests.{not-true, not-false}
+use borrow.Author.Needs.{needs}
+use Rattle.book.specs.Number.{byteAt}
+use Rattle.book.specs.Name.{isNameByte, nameRun}
+use Rattle.book.specs.Reading.{keyFrom}
+use Rattle.book.proofs.Places.{base-more, power-wide}
+use Rattle.book.proofs.Names.{name-byte-inside, run-stop, run-none, run-turn}
+use Rattle.book.proofs.Keys.{key-more}
+use Rattle.book.proofs.text.name_key.Statement.{statement}
+use Rattle.book.proofs.text.name_key.Tie as tie
+
+abbrev Inv-loop : tie.InvT-loop
+Inv-loop text from key₀ n₀ key n =
+    (n ≤ 8)
+    × ((from + n ≤ length text)
+    × ((key < 256 ^ n)
+    × ((key ≡ keyFrom n text from) × (nameRun 8 text from ≡ n + nameRun (8 - n) text (from + n)))))
+
+abbrev μ-loop : tie.MeasureT-loop
+μ-loop text from key₀ n₀ key n = 8 - n
+
+loop-holds : tie.Need-loop-holds Inv-loop μ-loop
+unfolding keyFrom
+loop-holds c =
+    let a = c .before .args in
+    let z : a .from + 0 ≡ a .from = omega arith in
+    (search needs, (search needs, (search needs, (refl, omega (arith, ap (nameRun 8 (a .text .now)) z)))))
+
+add-name-byte-at : tie.Need-add-name-byte-at Inv-loop μ-loop
+add-name-byte-at c = search needs
+
+name-byte-at-requires : tie.Need-name-byte-at-requires Inv-loop μ-loop
+name-byte-at-requires c κs = search needs
+
+returns : tie.Need-returns Inv-loop μ-loop
+returns c =
+    let a = c .before .before .before .before .before .args in
+    let l = c .before .before .before .loop in
+    let all : l .n ≡ nameRun 8 (a .text .now) (a .from) =
+    omega (arith, run-stop (a .text .now) (8 - l .n) (a .from + l .n) (sym (c .before .name-byte-at .ensures) ∙ not-true _ (c .if1 .taken))) in
+    l .inv .1 .1 .1 .0 ∙ ap (λ (k : ℕ). keyFrom k (a .text .now) (a .from)) all
+
+add-byte-at : tie.Need-add-byte-at Inv-loop μ-loop
+add-byte-at c = search needs
+
+byte-at-requires : tie.Need-byte-at-requires Inv-loop μ-loop
+byte-at-requires c κs = search needs
+
+mul-key : tie.Need-mul-key Inv-loop μ-loop
+mul-key c = let l = c .before .before .before .before .loop in omega (arith, power-wide (l .n) 7 (l .key) (lit< tt) (omega arith) (l .inv .1 .1 .0))
+
+cast-key : tie.Need-cast-key Inv-loop μ-loop
+cast-key c = search needs
+
+add-key : tie.Need-add-key Inv-loop μ-loop
+add-key c = let l = c .before .before .before .before .loop in omega (arith, power-wide (l .n) 7 (l .key) (lit< tt) (omega arith) (l .inv .1 .1 .0))
+
+add-n : tie.Need-add-n Inv-loop μ-loop
+add-n c = search needs
+
+loop-less : tie.Need-loop-less Inv-loop μ-loop
+loop-less c = search needs
+
+loop-again : tie.Need-loop-again Inv-loop μ-loop
+loop-again c =
+    let a = c .before .before .before .before .before .before .args in
+    let s = a .text .now in
+    let l = c .before .before .before .before .loop in
+    let t : isNameByte (byteAt s (a .from + l .n)) ≡ true = sym (c .before .before .name-byte-at .ensures) ∙ not-false _ (c .before .if1 .left) in (
+      search needs,
+      (
+        omega (arith, name-byte-inside s (a .from + l .n) t),
+        (
+          base-more (l .n) (l .key) _ (l .inv .1 .1 .0) (omega arith),
+          (
+            omega (arith, key-more s (l .n) (a .from)),
+            l .inv .1 .1 .1 .1 ∙ run-turn s (a .from) (l .n) (c .before .before .before .loop-test .taken) t,
+          ),
+        ),
+      ),
+    )
+
+returns-2 : tie.Need-returns-2 Inv-loop μ-loop
+returns-2 c =
+    let a = c .before .before .before .args in
+    let l = c .before .loop in
+    let z : 8 - l .n ≡ 0 = omega arith in
+    let all : l .n ≡ nameRun 8 (a .text .now) (a .from) =
+    omega (arith, ap (λ (k : ℕ). nameRun k (a .text .now) (a .from + l .n)) z, run-none (a .text .now) (a .from + l .n)) in
+    l .inv .1 .1 .1 .0 ∙ ap (λ (k : ℕ). keyFrom k (a .text .now) (a .from)) all
+
+pub name-key-spec : {M : Type 1} → statement M
+name-key-spec =
+    tie.close
+    (tie.spec
+    Inv-loop
+    μ-loop
+    loop-holds
+    add-name-byte-at
+    name-byte-at-requires
+    returns
+    add-byte-at
+    byte-at-requires
+    mul-key
+    cast-key
+    add-key
+    add-n
+    loop-less
+    loop-again
+    returns-2)

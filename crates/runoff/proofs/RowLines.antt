@@ -10,9 +10,9 @@ use Rattle.exact.proofs.Is.{is-one, is-times, is-ratio, is-same}
 use Rattle.exact.proofs.Rounded.{rounding-laws}
 use Rattle.runoff.specs.declared.Runoff.{Runoff}
 use Rattle.runoff.specs.declared.turning.Slopes.{Slopes}
-use Rattle.runoff.specs.Lines.{Section, axis, widening, outerEdge, outerBrow, innerEdge, innerBrow}
+use Rattle.runoff.specs.Lines.{Section, axisHeight, widening, outerEdge, outerBrow, innerEdge, innerBrow}
 use Rattle.runoff.specs.Rows.{tie, inUnits}
-use Rattle.runoff.specs.Reckoning.{sectionIn, Ready, Sized}
+use Rattle.runoff.specs.Reckoning.{sectionIn, axisIn, Limits, Ready, Sized}
 use Rattle.runoff.proofs.StationSlopes.{shoulder-rise, crown-rise}
 use Rattle.runoff.proofs.Heights.{outer-edge, outer-brow, inner-edge, inner-brow, widening-is}
 
@@ -26,6 +26,25 @@ pub counted : {x : Exact} {a b d u : ℕ} → Line x a b d u → inUnits u (rati
 counted {x} {a} {b} {d} {u} f =
     let parts = is-ratio a b d (f .is .over) in
     rounding-laws tie (1000 * u) (omega (arith, f .sized .unit)) .same (ratio a b d) x (f .is .over) (f .is .proper) (is-same parts (f .is))
+
+axis-high : {r : Runoff} → Limits r → axisHeight (sectionIn r) ≤ 337500
+axis-high {r} l = omega (arith, shoulder-rise r l, crown-rise r l)
+
+-- the axis
+pub axis-line : {r : Runoff} {u : ℕ} → Limits r → 1 ≤ u → u ≤ 10 → Line (axisIn r) (axisHeight (sectionIn r)) 0 1 u
+axis-line l low high =
+    record {
+      is = is-one _;
+      sized =
+          record {
+            some = omega arith;
+            few = omega arith;
+            high = omega (arith, axis-high l);
+            low = omega arith;
+            unit = low;
+            units = high;
+          };
+    }
 
 module _ {r : Runoff} {d : ℕ} {s : Slopes} {u : ℕ} (z : Ready r d s u) where
   abbrev x : Section
@@ -41,22 +60,7 @@ module _ {r : Runoff} {d : ℕ} {s : Slopes} {u : ℕ} (z : Ready r d s u) where
   side = (x .c * x .L - x .W * d) * s .shoulder
 
   axis-most : s .axis ≤ 337500
-  axis-most = omega (arith, z .slopes .axis-is, shoulder-rise r (z .limits), crown-rise r (z .limits))
-
-  pub axis-line : Line (axis x) (s .axis) 0 1 u
-  axis-line =
-      record {
-        is = rw (z .slopes .axis-is) (is-one _);
-        sized =
-            record {
-              some = omega arith;
-              few = omega arith;
-              high = omega (arith, axis-most);
-              low = omega arith;
-              unit = z .unit;
-              units = z .units;
-            };
-      }
+  axis-most = omega (arith, z .slopes .axis-is, axis-high (z .limits))
 
   -- the widening takes no more than the shoulder
   pub widened : x .W * d ≤ x .c * x .L

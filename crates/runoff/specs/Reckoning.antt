@@ -9,7 +9,7 @@ use Rattle.runoff.specs.declared.Runoff.{Runoff}
 use Rattle.runoff.specs.declared.turning.Slope.{Slope}
 use Rattle.runoff.specs.declared.turning.Slopes.{Slopes}
 use Rattle.runoff.specs.declared.rows.Sides.{Sides}
-use Rattle.runoff.specs.Lines.{Section, axisHeight, outerSlope, innerSlope, shoulderSlope, innerBrow, innerEdge, outerEdge, outerBrow}
+use Rattle.runoff.specs.Lines.{Section, axis, axisHeight, outerSlope, innerSlope, shoulderSlope, innerBrow, innerEdge, outerEdge, outerBrow}
 use Rattle.runoff.specs.Rows.{inUnits}
 use Rattle.runoff.specs.Runoff.{stagesOf}
 
@@ -25,6 +25,10 @@ sectionIn r =
       W = r .«full_widening»;
       L = r .clothoid;
     }
+
+-- the axis of a runoff, which stays
+abbrev pub axisIn : Runoff → Exact
+axisIn r = axis (sectionIn r)
 
 -- what the runoff of an accepted card keeps to
 pub record Limits (r : Runoff) : Type 0 where

@@ -12,8 +12,8 @@ ghost use denote.Ref.{now};
 ghost use lib.ListN.{length, drop};
 ghost use Rattle.runoff.specs.Refusal.{refusal};
 ghost use Rattle.runoff.specs.Runoff.{runoffOf};
-ghost use Rattle.runoff.specs.Rows.{row, cells, rowCount, rowWidth, rows, stationOf};
-ghost use Rattle.runoff.specs.Reckoning.{sectionIn, Limits, Ready, innerSides, outerSides};
+ghost use Rattle.runoff.specs.Rows.{row, cells, rowCount, rowWidth, rows, stationOf, inUnits};
+ghost use Rattle.runoff.specs.Reckoning.{sectionIn, axisIn, Limits, Ready, innerSides, outerSides};
 
 // A row: the station in mm, the others in counts of the unit.
 pub(crate) struct Row {
@@ -73,20 +73,31 @@ fn inner_sides(r: Runoff, d: u64, s: Slopes, unit: u64) -> Sides
     Sides { brow, edge }
 }
 
-// The row at the station d.
-fn row_at(r: Runoff, d: u64, unit: u64) -> Row
+// The axis in counts of the unit: the same in every row, so that it is reckoned once for a table.
+fn axis_count(r: Runoff, unit: u64) -> i32
+    requires { ⌜ Limits r × (1 ≤ unit) × (unit ≤ 10) ⌝ }
+    ensures { λ n. ⌜ n ≡ inUnits unit (axisIn r) ⌝ }
+{
+    let h = r.half_width;
+    let c = r.shoulder_width;
+    let p = r.crown_slope;
+    let q = r.shoulder_slope;
+    height(c * q + h * p, 0, 1, unit)
+}
+
+// The row at the station d, where the axis is at this count of units.
+fn row_at(r: Runoff, d: u64, axis: i32, unit: u64) -> Row
     requires { ⌜ Limits r × (d ≤ r .clothoid) × (1 ≤ unit) × (unit ≤ 10) ⌝ }
+    requires { ⌜ axis ≡ inUnits unit (axisIn r) ⌝ }
     ensures { λ x. ⌜ x ≡ row (sectionIn r) unit d ⌝ }
 {
     let w = r.full_widening;
     let l = r.clothoid;
     let s = slopes_at(r, d);
-    let axis_height = s.axis;
     let inner = inner_sides(r, d, s, unit);
     let outer = outer_sides(r, d, s, unit);
     let station = d as i32;
     let widening = height(1000 * (w * d), 0, l, unit);
-    let axis = height(axis_height, 0, 1, unit);
     let inner_brow = inner.brow;
     let inner_edge = inner.edge;
     let outer_edge = outer.edge;
@@ -151,10 +162,11 @@ pub(crate) fn write_rows(card: Card, r: Runoff, count: usize, table: &mut [i32])
     ensures { λ _. ⌜ now (table .exit) ≡ rows card ++ drop (rowWidth * rowCount card) (now (table .entry)) ⌝ }
 {
     let unit = card.unit as u64;
+    let axis = axis_count(r, unit);
     let mut i: usize = 0;
     while i < count {
         let d = station_of(card, i);
-        let row = row_at(r, d, unit);
+        let row = row_at(r, d, axis, unit);
         let at = ROW_WIDTH * i;
         let end = at + ROW_WIDTH;
         write_row(&mut table[at..end], row);

@@ -10,7 +10,7 @@ use Rattle.exact.proofs.Machine.{nat-back}
 use Rattle.runoff.specs.declared.rows.Sides.{Sides}
 use Rattle.runoff.specs.Rows.{row}
 use Rattle.runoff.specs.Reckoning.{Ready, innerSides, outerSides}
-use Rattle.runoff.proofs.RowLines.{counted, axis-line, widening-line}
+use Rattle.runoff.proofs.RowLines.{counted, widening-line}
 use Rattle.runoff.proofs.Fields.{same-row}
 use Rattle.runoff.proofs.rows.row_at.Statement.{statement}
 use Rattle.runoff.proofs.rows.row_at.Tie as tie
@@ -23,8 +23,7 @@ returns : tie.Need-returns
 unfolding row innerSides outerSides
 returns c =
     let told = c .before .before in
-    let a = told .before .before in
-    let w = a .before in
+    let w = told .before .before in
     let o = w .before in
     let n = o .before in
     let z = n .before in
@@ -37,7 +36,7 @@ returns c =
     (toZ-ofZ (record { sfits = w .height .ok }) ∙ w .height .ensures ∙ counted (widening-line (ready z)))
     (toZ-ofZ in-brow ∙ ap (λ (x : Sides). x .brow) (n .inner-sides .ensures))
     (toZ-ofZ in-edge ∙ ap (λ (x : Sides). x .edge) (n .inner-sides .ensures))
-    (toZ-ofZ (record { sfits = a .height2 .ok }) ∙ a .height2 .ensures ∙ counted (axis-line (ready z)))
+    (toZ-ofZ (z .before .fits .axis) ∙ z .before .pre .1)
     (toZ-ofZ out-edge ∙ ap (λ (x : Sides). x .edge) (o .outer-sides .ensures))
     (toZ-ofZ out-brow ∙ ap (λ (x : Sides). x .brow) (o .outer-sides .ensures))
 
@@ -62,9 +61,6 @@ mul-height-2 c = record { fits = omega (arith, widening-line (ready (c .before .
 height-requires : tie.Need-height-requires
 height-requires c κs = widening-line (ready (c .before .before)) .sized
 
-height-requires-2 : tie.Need-height-requires-2
-height-requires-2 c κs = axis-line (ready (c .before .before .before)) .sized
-
 pub row-at-spec : {M : Type 1} → statement M
 row-at-spec =
     tie.close
@@ -76,5 +72,4 @@ row-at-spec =
     mul-height
     mul-height-2
     height-requires
-    height-requires-2
     returns)

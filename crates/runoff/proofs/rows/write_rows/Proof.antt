@@ -8,6 +8,7 @@ use lib.IntN.{ℤ}
 use lib.ListN.{length, drop}
 use denote.Ref.{now}
 use borrow.Author.Needs.{needs}
+use mir.Facts.{toZ-ofZ}
 use borrow.Rule.Slice.PartMut.{putMid}
 use Rattle.runoff.specs.declared.Card.{Card}
 use Rattle.runoff.specs.declared.Runoff.{Runoff}
@@ -27,10 +28,10 @@ record Going (card : Card) (count : ℕ) (old table : List ℤ) (i : ℕ) : Type
   so-far : table ≡ firstRows card i ++ drop (rowWidth * i) old
 
 abbrev Inv-loop : tie.InvT-loop
-Inv-loop card r count table₀ unit i₀ table i = Going card count table₀ table i
+Inv-loop card r count table₀ unit axis i₀ table i = Going card count table₀ table i
 
 abbrev μ-loop : tie.MeasureT-loop
-μ-loop card r count table₀ unit i₀ table i = count - i
+μ-loop card r count table₀ unit axis i₀ table i = count - i
 
 -- the row that is reckoned, of the runoff r at the station d, is row i of the card
 row-is :
@@ -41,12 +42,19 @@ row-is card i is at = ap₂ (λ x e. row x (card .unit) e) (ap sectionIn is ∙ 
 cast-unit : tie.Need-cast-unit Inv-loop μ-loop
 cast-unit c = search needs
 
+axis-count-requires : tie.Need-axis-count-requires Inv-loop μ-loop
+axis-count-requires c κs =
+    let card = c .before .args .card in
+    let passes = c .before .pre .0 .0 in
+    let unit = unit-in card passes in
+    (rw (c .before .pre .0 .1) (limits-of card passes), unit .0, unit .1)
+
 loop-holds : tie.Need-loop-holds Inv-loop μ-loop
 unfolding joined
 loop-holds c = record { most = omega arith; long = refl; so-far = refl }
 
 station-of-requires : tie.Need-station-of-requires Inv-loop μ-loop
-station-of-requires c κs = (c .before .before .before .pre .0 .0, omega arith)
+station-of-requires c κs = (c .before .before .before .before .pre .0 .0, omega arith)
 
 on : (card : Card) (i : ℕ) → stationOf card i ≤ runoffOf card .clothoid
 unfolding runoffOf
@@ -54,12 +62,13 @@ on card i = station-most card i
 
 row-at-requires : tie.Need-row-at-requires Inv-loop μ-loop
 row-at-requires c κs =
-    let start = c .before .before .before .before in
+    let start = c .before .before .before .before .before in
     let card = start .args .card in
     let passes = start .pre .0 .0 in
     let is = start .pre .0 .1 in
     let unit = unit-in card passes in
-    (rw is (limits-of card passes), rw (c .station-of .ensures, is) (on card _), unit .0, unit .1)
+    let axis = c .before .before .before .axis-count in
+    ((rw is (limits-of card passes), rw (c .station-of .ensures, is) (on card _), unit .0, unit .1), toZ-ofZ (record { sfits = axis .ok }) ∙ axis .ensures)
 
 mul-at : tie.Need-mul-at Inv-loop μ-loop
 mul-at c = omega arith
@@ -91,7 +100,7 @@ loop-less c = omega arith
 loop-again : tie.Need-loop-again Inv-loop μ-loop
 loop-again c =
     let at-loop = c .before .before .before .before .before .before in
-    let start = at-loop .before .before in
+    let start = at-loop .before .before .before in
     let card = start .args .card in
     let i = at-loop .loop .i in
     let station = c .before .before .before .before .station-of .ensures in
@@ -109,7 +118,7 @@ same-length c = c .before .loop .inv .long
 returns : tie.Need-returns Inv-loop μ-loop
 returns c =
     let at-loop = c .before in
-    let start = at-loop .before .before in
+    let start = at-loop .before .before .before in
     let done : at-loop .loop .i ≡ rowCount (start .args .card) = omega (arith, start .pre .1 .0) in
     at-loop .loop .inv .so-far ∙ rw (done, all-rows)
 
@@ -120,6 +129,7 @@ write-rows-spec =
     Inv-loop
     μ-loop
     cast-unit
+    axis-count-requires
     loop-holds
     station-of-requires
     row-at-requires

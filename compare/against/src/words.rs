@@ -1,0 +1,155 @@
+//! The tally and the differences, in words.
+
+use crate::book_case::{self, BookAnswer, BookCase};
+use crate::books;
+use crate::card_case::{self, CardAnswer, CardCase, CLASSES};
+use crate::cards;
+use crate::lent::Unlike;
+use crate::tally::{Altered, Tally, BOOK_REPLIES, CARD_REPLIES};
+use std::fmt::Arguments;
+
+/// Unlike places named in one difference.
+const NAMED: usize = 20;
+
+/// One line of a table of counts.
+fn line(name: &str, counts: &[u64]) {
+    print!("{name:>28}");
+    counts.iter().for_each(|count| print!(" {count:>11}"));
+    println!();
+}
+
+fn heading(name: &str, columns: &[String]) {
+    print!("{name:>28}");
+    columns.iter().for_each(|column| print!(" {column:>11}"));
+    println!();
+}
+
+fn sum<const N: usize>(lines: &[[u64; N]]) -> [u64; N] {
+    std::array::from_fn(|column| lines.iter().map(|line| line[column]).sum())
+}
+
+pub fn print_tally(tally: &Tally) {
+    print_cards(tally);
+    println!();
+    print_books(tally);
+    println!();
+    print_altered(tally);
+}
+
+fn card_kind_names() -> Vec<&'static str> {
+    let four = cards::KINDS.iter().map(|(name, _)| *name);
+    four.chain(["from a book"]).collect()
+}
+
+fn print_cards(tally: &Tally) {
+    heading(
+        "Cards by reply",
+        &CARD_REPLIES.map(|reply| reply.to_string()),
+    );
+    for (name, counts) in card_kind_names().iter().zip(&tally.cards) {
+        line(name, counts);
+    }
+    line("all", &sum(&tally.cards));
+    println!();
+    heading("Cards by table length", &CLASSES.map(str::to_string));
+    for (name, counts) in card_kind_names().iter().zip(&tally.classes) {
+        line(name, counts);
+    }
+    line("all", &sum(&tally.classes));
+    println!();
+    heading("Rows came for", &["even", "two-stage"].map(str::to_string));
+    for (profile, counts) in tally.courses.iter().enumerate() {
+        line(&format!("profile {}", profile + 1), counts);
+    }
+    let (rows, numbers) = (tally.rows, tally.table_numbers);
+    println!("{rows} rows compared; {numbers} numbers, tails and guards too");
+}
+
+fn print_books(tally: &Tally) {
+    heading(
+        "Books by reply",
+        &BOOK_REPLIES.map(|reply| reply.to_string()),
+    );
+    for ((name, _), counts) in books::KINDS.iter().zip(&tally.books) {
+        line(name, counts);
+    }
+    line("all", &sum(&tally.books));
+    let (curves, numbers) = (tally.curves, tally.list_numbers);
+    println!("{curves} curves compared; {numbers} numbers and bytes, tails and guards too");
+}
+
+fn print_altered(tally: &Tally) {
+    heading(
+        "Altered on purpose",
+        &["altered", "found"].map(str::to_string),
+    );
+    for ((name, _), altered) in card_case::ALTERATIONS.iter().zip(&tally.altered_cards) {
+        line(&format!("card: {name}"), &[altered.made, altered.found]);
+    }
+    for ((name, _), altered) in book_case::ALTERATIONS.iter().zip(&tally.altered_books) {
+        line(&format!("book: {name}"), &[altered.made, altered.found]);
+    }
+    let all = total(&tally.altered_cards, &tally.altered_books);
+    println!("{} altered answers, {} found", all.made, all.found);
+}
+
+pub fn total(cards: &[Altered], books: &[Altered]) -> Altered {
+    let both = || cards.iter().chain(books);
+    Altered {
+        made: both().map(|altered| altered.made).sum(),
+        found: both().map(|altered| altered.found).sum(),
+    }
+}
+
+pub fn print_differences(tally: &Tally) {
+    if tally.differing == 0 {
+        println!("No differences");
+    }
+    for (place, difference) in tally.differences.iter().enumerate() {
+        println!("Difference {}: {}", place + 1, difference.words);
+    }
+}
+
+pub fn card_difference(origin: &Arguments, case: &CardCase, unlike: &[Unlike]) -> String {
+    let card = case.card.map(|number| number.to_string()).join(" ");
+    let length = case.due.table.numbers().len();
+    let mut words = format!("card ({origin})\n  card {card}\n  table of {length} numbers\n");
+    words += &format!("  due: {}\n", card_words(&case.due));
+    words += &format!("  came: {}\n", card_words(&case.came));
+    words + &places(unlike)
+}
+
+fn card_words(answer: &CardAnswer) -> String {
+    let (check, reply) = (answer.check, answer.reply);
+    let count = answer.count.numbers()[0];
+    format!("check {check}, reply {reply}, count {count}")
+}
+
+pub fn book_difference(origin: &Arguments, case: &BookCase, unlike: &[Unlike]) -> String {
+    let text = case.due.text.numbers().escape_ascii();
+    let size = case.due.text.numbers().len();
+    let length = case.due.list.numbers().len();
+    let mut words = format!("book ({origin})\n  text of {size} bytes \"{text}\"\n");
+    words += &format!("  list of {length} numbers\n");
+    words += &format!("  due: {}\n", book_words(&case.due));
+    words += &format!("  came: {}\n", book_words(&case.came));
+    words + &places(unlike)
+}
+
+fn book_words(answer: &BookAnswer) -> String {
+    let reply = answer.reply;
+    let (count, line) = (answer.count.numbers()[0], answer.line.numbers()[0]);
+    format!("reply {reply}, count {count}, line {line}")
+}
+
+fn places(unlike: &[Unlike]) -> String {
+    let mut words = String::new();
+    for Unlike { what, due, came } in unlike.iter().take(NAMED) {
+        words += &format!("  {what}: due {due}, came {came}\n");
+    }
+    let more = unlike.len().saturating_sub(NAMED);
+    if more > 0 {
+        words += &format!("  and {more} more places\n");
+    }
+    words
+}

@@ -1,0 +1,160 @@
+//! The work, in pieces; each case has its own seeded numbers, whoever does it.
+
+use crate::book_case::{self, BookAnswer, BookCase};
+use crate::books;
+use crate::card_case::{self, CardAnswer, CardCase};
+use crate::cards;
+use crate::lent::Unlike;
+use crate::seeded::Seeded;
+use crate::tally::{Tally, FROM_A_BOOK};
+use crate::words;
+use std::sync::atomic::{AtomicU64, Ordering};
+use std::thread;
+
+/// Cases in a piece; one of them is altered as well.
+const PIECE: u64 = 1000;
+/// Sorts of seeded numbers.
+const CARD: u64 = 1;
+const BOOK: u64 = 2;
+const ALTERED_CARD: u64 = 3;
+const ALTERED_BOOK: u64 = 4;
+/// One accepted book in so many has its cards filled into tables too.
+const BOOKS_FILLED: usize = 4;
+
+#[derive(Clone, Copy)]
+pub struct Asked {
+    pub cards: u64,
+    pub books: u64,
+    pub seed: u64,
+}
+
+/// Does all that is asked, on all cores.
+pub fn all(asked: Asked) -> Tally {
+    let next = AtomicU64::new(0);
+    let hands = thread::available_parallelism().map_or(2, usize::from);
+    let mut tally = Tally::default();
+    thread::scope(|scope| {
+        let work = || pieces(asked, &next);
+        let working: Vec<_> = (0..hands).map(|_| scope.spawn(work)).collect();
+        for hand in working {
+            tally.add(hand.join().expect("the work is done to its end"));
+        }
+    });
+    tally
+}
+
+/// Takes the next piece until there is none left.
+fn pieces(asked: Asked, next: &AtomicU64) -> Tally {
+    let card_pieces = asked.cards.div_ceil(PIECE);
+    let book_pieces = asked.books.div_ceil(PIECE);
+    let mut tally = Tally::default();
+    loop {
+        let piece = next.fetch_add(1, Ordering::Relaxed);
+        if piece < card_pieces {
+            cards_of(piece, piece, asked, &mut tally);
+        } else if piece < card_pieces + book_pieces {
+            books_of(piece, piece - card_pieces, asked, &mut tally);
+        } else {
+            return tally;
+        }
+    }
+}
+
+/// The indices of the n-th piece, and the one among them that is altered.
+fn indices(nth: u64, total: u64, altered: &mut Seeded) -> (std::ops::Range<u64>, u64) {
+    let range = nth * PIECE..total.min((nth + 1) * PIECE);
+    let chosen = range.start + altered.next() % (range.end - range.start);
+    (range, chosen)
+}
+
+fn cards_of(piece: u64, nth: u64, asked: Asked, tally: &mut Tally) {
+    let mut altered = Seeded::new(asked.seed, ALTERED_CARD, nth);
+    let (range, chosen) = indices(nth, asked.cards, &mut altered);
+    for index in range {
+        let mut seeded = Seeded::new(asked.seed, CARD, index);
+        let kind = index as usize % cards::KINDS.len();
+        let (name, make) = cards::KINDS[kind];
+        let case = card_case::run(make(&mut seeded), &mut seeded);
+        let like = compare_card(piece, &format_args!("{name}, index {index}"), &case, tally);
+        tally.count_card(kind, &case);
+        if like && index == chosen {
+            alter_card(&case, &mut altered, tally);
+        }
+    }
+}
+
+/// True when nothing differs.
+fn compare_card(
+    piece: u64,
+    origin: &std::fmt::Arguments,
+    case: &CardCase,
+    tally: &mut Tally,
+) -> bool {
+    let unlike = case.due.unlike(&case.came);
+    if !unlike.is_empty() {
+        tally.differs(piece, || words::card_difference(origin, case, &unlike));
+    }
+    unlike.is_empty()
+}
+
+fn books_of(piece: u64, nth: u64, asked: Asked, tally: &mut Tally) {
+    let mut altered = Seeded::new(asked.seed, ALTERED_BOOK, nth);
+    let (range, chosen) = indices(nth, asked.books, &mut altered);
+    for index in range {
+        let mut seeded = Seeded::new(asked.seed, BOOK, index);
+        let kind = index as usize % books::KINDS.len();
+        let (name, make) = books::KINDS[kind];
+        let case = book_case::run(&make(&mut seeded), &mut seeded);
+        let unlike = case.due.unlike(&case.came);
+        let origin = format_args!("{name}, index {index}");
+        tally.count_book(kind, &case);
+        if !unlike.is_empty() {
+            tally.differs(piece, || words::book_difference(&origin, &case, &unlike));
+            continue;
+        }
+        if seeded.one_in(BOOKS_FILLED) {
+            fill_tables(piece, index, &case, &mut seeded, tally);
+        }
+        if index == chosen {
+            alter_book(&case, &mut altered, tally);
+        }
+    }
+}
+
+/// The cards go from the library's list into its tables.
+fn fill_tables(piece: u64, index: u64, case: &BookCase, seeded: &mut Seeded, tally: &mut Tally) {
+    for (curve, card) in case.came.cards().into_iter().enumerate() {
+        let case = card_case::run(card, seeded);
+        let origin = format_args!("curve {curve} of book index {index}");
+        compare_card(piece, &origin, &case, tally);
+        tally.count_card(FROM_A_BOOK, &case);
+    }
+}
+
+/// The one altered number, and nothing else, must be found.
+fn is_found(unlike: &[Unlike]) -> bool {
+    unlike.len() == 1
+}
+
+/// Alters the answer that came at each sort of place in turn.
+fn alter_card(case: &CardCase, seeded: &mut Seeded, tally: &mut Tally) {
+    for (place, (_, alter)) in card_case::ALTERATIONS.iter().enumerate() {
+        let mut answer: CardAnswer = case.came.clone();
+        if alter(&mut answer, seeded) {
+            let found = is_found(&case.due.unlike(&answer));
+            tally.altered_cards[place].made += 1;
+            tally.altered_cards[place].found += u64::from(found);
+        }
+    }
+}
+
+fn alter_book(case: &BookCase, seeded: &mut Seeded, tally: &mut Tally) {
+    for (place, (_, alter)) in book_case::ALTERATIONS.iter().enumerate() {
+        let mut answer: BookAnswer = case.came.clone();
+        if alter(&mut answer, seeded) {
+            let found = is_found(&case.due.unlike(&answer));
+            tally.altered_books[place].made += 1;
+            tally.altered_books[place].found += u64::from(found);
+        }
+    }
+}

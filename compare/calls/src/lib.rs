@@ -1,0 +1,60 @@
+//! The library's three calls, over slices. An empty slice crosses as NULL, as the header allows.
+
+use std::ptr;
+
+extern "C" {
+    fn pippinterm_check_card(card: *const u32) -> u32;
+    fn pippinterm_fill_table(
+        card: *const u32,
+        table: *mut i32,
+        table_length: usize,
+        count: *mut u32,
+    ) -> u32;
+    fn pippinterm_read_book(
+        text: *const u8,
+        text_length: usize,
+        list: *mut u32,
+        list_length: usize,
+        count: *mut u32,
+        line: *mut u32,
+    ) -> u32;
+}
+
+/// Where a slice that is read begins.
+fn start<T>(slice: &[T]) -> *const T {
+    if slice.is_empty() {
+        ptr::null()
+    } else {
+        slice.as_ptr()
+    }
+}
+
+/// Where a slice that is written begins.
+fn start_mut<T>(slice: &mut [T]) -> *mut T {
+    if slice.is_empty() {
+        ptr::null_mut()
+    } else {
+        slice.as_mut_ptr()
+    }
+}
+
+/// The first of the reasons 1 to 10 met, or 0.
+pub fn check_card(card: &[u32; 8]) -> u32 {
+    // SAFETY: the call reads the eight numbers lent here.
+    unsafe { pippinterm_check_card(card.as_ptr()) }
+}
+
+/// Fills the table, sets the count of rows and gives the reply number.
+pub fn fill_table(card: &[u32; 8], table: &mut [i32], count: &mut u32) -> u32 {
+    let (length, table) = (table.len(), start_mut(table));
+    // SAFETY: every place lent here is its slice's own, with its true length.
+    unsafe { pippinterm_fill_table(card.as_ptr(), table, length, count) }
+}
+
+/// Fills the list, sets the count of curves and the line, and gives the reply number.
+pub fn read_book(text: &[u8], list: &mut [u32], count: &mut u32, line: &mut u32) -> u32 {
+    let (text_length, text) = (text.len(), start(text));
+    let (list_length, list) = (list.len(), start_mut(list));
+    // SAFETY: every place lent here is its slice's own, with its true length.
+    unsafe { pippinterm_read_book(text, text_length, list, list_length, count, line) }
+}

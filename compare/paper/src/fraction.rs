@@ -1,0 +1,129 @@
+//! Exact fractions: a whole number over a whole number above nought.
+
+use std::cmp::Ordering;
+use std::ops::{Add, Div, Mul, Neg, Sub};
+
+#[derive(Clone, Copy, Debug)]
+pub struct Fraction {
+    top: i128,
+    bottom: i128,
+}
+
+/// `top` over `bottom`; the bottom is above nought.
+pub fn fraction(top: i128, bottom: i128) -> Fraction {
+    assert!(bottom > 0, "the bottom of a fraction is above nought");
+    Fraction { top, bottom }
+}
+
+/// A whole number as a fraction.
+pub fn whole(number: u32) -> Fraction {
+    fraction(i128::from(number), 1)
+}
+
+impl Add for Fraction {
+    type Output = Fraction;
+    fn add(self, other: Fraction) -> Fraction {
+        fraction(
+            self.top * other.bottom + other.top * self.bottom,
+            self.bottom * other.bottom,
+        )
+    }
+}
+
+impl Neg for Fraction {
+    type Output = Fraction;
+    fn neg(self) -> Fraction {
+        fraction(-self.top, self.bottom)
+    }
+}
+
+impl Sub for Fraction {
+    type Output = Fraction;
+    fn sub(self, other: Fraction) -> Fraction {
+        self + -other
+    }
+}
+
+impl Mul for Fraction {
+    type Output = Fraction;
+    fn mul(self, other: Fraction) -> Fraction {
+        fraction(self.top * other.top, self.bottom * other.bottom)
+    }
+}
+
+impl Div for Fraction {
+    type Output = Fraction;
+    /// Only ever by a fraction above nought.
+    fn div(self, other: Fraction) -> Fraction {
+        fraction(self.top * other.bottom, self.bottom * other.top)
+    }
+}
+
+impl PartialEq for Fraction {
+    fn eq(&self, other: &Fraction) -> bool {
+        self.cmp(other) == Ordering::Equal
+    }
+}
+
+impl Eq for Fraction {}
+
+impl PartialOrd for Fraction {
+    fn partial_cmp(&self, other: &Fraction) -> Option<Ordering> {
+        Some(self.cmp(other))
+    }
+}
+
+impl Ord for Fraction {
+    /// Two fractions are compared by cross-multiplying.
+    fn cmp(&self, other: &Fraction) -> Ordering {
+        (self.top * other.bottom).cmp(&(other.top * self.bottom))
+    }
+}
+
+impl Fraction {
+    /// The nearest whole number; halfway goes to the lower one, also below nought.
+    pub fn nearest(self) -> i32 {
+        let lower = self.top.div_euclid(self.bottom);
+        let rest = self.top.rem_euclid(self.bottom);
+        let nearest = if 2 * rest > self.bottom {
+            lower + 1
+        } else {
+            lower
+        };
+        i32::try_from(nearest).expect("a row's number fits 32 bits")
+    }
+}
+
+#[cfg(test)]
+mod tests {
+    use super::fraction;
+
+    #[test]
+    fn halfway_goes_to_the_lower_number() {
+        assert_eq!(fraction(45, 2).nearest(), 22);
+        assert_eq!(fraction(46, 2).nearest(), 23);
+        assert_eq!(fraction(1, 2).nearest(), 0);
+        assert_eq!(fraction(-1, 2).nearest(), -1);
+        assert_eq!(fraction(-45, 2).nearest(), -23);
+    }
+
+    #[test]
+    fn beside_halfway_goes_to_the_nearest() {
+        assert_eq!(fraction(2251, 100).nearest(), 23);
+        assert_eq!(fraction(2249, 100).nearest(), 22);
+        assert_eq!(fraction(-2251, 100).nearest(), -23);
+        assert_eq!(fraction(-2249, 100).nearest(), -22);
+        assert_eq!(fraction(-1, 3).nearest(), 0);
+        assert_eq!(fraction(-2, 3).nearest(), -1);
+    }
+
+    #[test]
+    fn sums_and_comparing() {
+        assert_eq!(fraction(1, 2) + fraction(1, 3), fraction(5, 6));
+        assert_eq!(fraction(1, 2) - fraction(1, 3), fraction(1, 6));
+        assert_eq!(fraction(2, 4) * fraction(2, 3), fraction(1, 3));
+        assert_eq!(fraction(1, 2) / fraction(3, 4), fraction(2, 3));
+        assert!(fraction(-1, 2) < fraction(-1, 3));
+        assert_eq!(fraction(1, 3).max(fraction(1, 2)), fraction(1, 2));
+    }
+}

@@ -1,0 +1,104 @@
+//! Lines of the cross-section of an accepted runoff, at any station.
+//!
+//! A length in mm times a slope in ‰ is a height in micrometres.
+
+use crate::card::{self, Card, Profile};
+use crate::fraction::{fraction, whole, Fraction};
+
+/// A runoff is either even or two-stage; the joint is where the first stage ends.
+#[derive(Clone, Copy, Debug, PartialEq, Eq)]
+pub enum Course {
+    Even,
+    TwoStage { joint: Fraction },
+}
+
+/// The paper's letters for one accepted card.
+#[derive(Clone, Copy, Debug)]
+pub struct Runoff {
+    h: Fraction,
+    c: Fraction,
+    p: Fraction,
+    q: Fraction,
+    v: Fraction,
+    length: Fraction,
+    full_widening: Fraction,
+    pub course: Course,
+}
+
+impl Runoff {
+    /// The runoff of a card with a known profile; the other numbers are taken as accepted.
+    pub fn new(card: &Card) -> Runoff {
+        let profile = card::profile(card.profile).expect("an accepted card has a profile");
+        Runoff {
+            h: whole(profile.half),
+            c: whole(profile.shoulder),
+            p: whole(profile.crown_slope),
+            q: whole(profile.shoulder_slope),
+            v: whole(card.full_slope),
+            length: whole(card.length),
+            full_widening: whole(card.full_widening),
+            course: course(&profile, card),
+        }
+    }
+
+    /// The axis stays at c × q + h × p.
+    pub fn axis(&self) -> Fraction {
+        self.c * self.q + self.h * self.p
+    }
+
+    pub fn outer_slope(&self, station: Fraction) -> Fraction {
+        match self.course {
+            Course::Even => -self.p + (self.p + self.v) * station / self.length,
+            Course::TwoStage { joint } if station <= joint => self.first_stage(station),
+            Course::TwoStage { joint } => self.second_stage(station, joint),
+        }
+    }
+
+    /// The outer edge climbs at 3‰, so the slope is its height over the axis by h.
+    fn first_stage(&self, station: Fraction) -> Fraction {
+        -self.p + whole(3) * station / self.h
+    }
+
+    /// From p at the joint in a straight line to v at L.
+    fn second_stage(&self, station: Fraction, joint: Fraction) -> Fraction {
+        self.p + (self.v - self.p) * ((station - joint) / (self.length - joint))
+    }
+
+    pub fn outer_edge(&self, station: Fraction) -> Fraction {
+        self.axis() + self.h * self.outer_slope(station)
+    }
+
+    pub fn outer_brow(&self, station: Fraction) -> Fraction {
+        self.outer_edge(station) + self.c * self.outer_slope(station)
+    }
+
+    /// The greater of p and the outer slope.
+    pub fn inner_slope(&self, station: Fraction) -> Fraction {
+        self.p.max(self.outer_slope(station))
+    }
+
+    /// In mm, all on the inner side.
+    pub fn widening(&self, station: Fraction) -> Fraction {
+        self.full_widening * station / self.length
+    }
+
+    pub fn inner_edge(&self, station: Fraction) -> Fraction {
+        self.axis() - (self.h + self.widening(station)) * self.inner_slope(station)
+    }
+
+    pub fn inner_brow(&self, station: Fraction) -> Fraction {
+        let shoulder = self.c - self.widening(station);
+        let slope = self.q.max(self.inner_slope(station));
+        self.inner_edge(station) - shoulder * slope
+    }
+}
+
+/// Even when h × (p + v) is at least 3 × L, else two-stage with the joint at 2 × h × p / 3.
+fn course(profile: &Profile, card: &Card) -> Course {
+    let climb = profile.half * (profile.crown_slope + card.full_slope);
+    if climb >= 3 * card.length {
+        return Course::Even;
+    }
+    let joint = fraction(i128::from(2 * profile.half * profile.crown_slope), 3);
+    Course::TwoStage { joint }
+}

@@ -1,0 +1,153 @@
+//! A book of cards, read line by line.
+
+const LONGEST_TEXT: usize = 8192;
+const MOST_CURVES: usize = 64;
+const BLANK: u8 = b' ';
+const LINE_END: u8 = 10;
+
+/// What of the text is not read yet, and its byte place.
+struct Reader<'a> {
+    rest: &'a [u8],
+    place: usize,
+}
+
+impl<'a> Reader<'a> {
+    /// Goes past so many bytes.
+    fn skip(&mut self, length: usize) {
+        self.rest = &self.rest[length..];
+        self.place += length;
+    }
+
+    /// A number of 1 to 7 digits and the byte that ends it.
+    fn number(&mut self, end: u8) -> Option<u32> {
+        let rest = self.rest;
+        let mut value = 0;
+        for (length, &byte) in rest.iter().take(8).enumerate() {
+            if byte == end {
+                let good = length == 1 || (length > 1 && rest[0] != b'0');
+                self.skip(length + 1);
+                return good.then_some(value);
+            }
+            if !byte.is_ascii_digit() {
+                return None;
+            }
+            value = 10 * value + u32::from(byte - b'0');
+        }
+        None
+    }
+
+    /// A name of 1 to 8 capitals or digits and the blank after it.
+    fn name(&mut self) -> Option<&'a [u8]> {
+        let rest = self.rest;
+        let length = rest.iter().take(9).position(|&byte| byte == BLANK)?;
+        let name = &rest[..length];
+        let good = |byte: &u8| byte.is_ascii_uppercase() || byte.is_ascii_digit();
+        if name.is_empty() || !name.iter().all(good) {
+            return None;
+        }
+        self.skip(length + 1);
+        Some(name)
+    }
+
+    /// A body's eight numbers.
+    fn body(&mut self, card: &mut [u32]) -> Option<()> {
+        for (i, number) in card.iter_mut().enumerate() {
+            *number = self.number(if i < 7 { BLANK } else { LINE_END })?;
+        }
+        Some(())
+    }
+}
+
+/// Ten numbers a curve: place and length of the name, then the card.
+type Curves = [[u32; 10]; MOST_CURVES];
+
+/// The count of curves, or the number of the refusal and its line.
+fn read(text: &[u8], curves: &mut Curves) -> Result<usize, (u32, u32)> {
+    let mut reader = Reader {
+        rest: text,
+        place: 0,
+    };
+    let count = match reader.number(LINE_END) {
+        Some(count @ 1..=64) => count as usize,
+        _ => return Err((22, 1)),
+    };
+    let mut names: [&[u8]; MOST_CURVES] = [&[]; MOST_CURVES];
+    for i in 0..count {
+        let line = i as u32 + 2;
+        let place = reader.place;
+        let name = reader.name().ok_or((23, line))?;
+        let due = reader.number(LINE_END).ok_or((23, line))?;
+        if due as usize != count + 2 + i {
+            return Err((24, line));
+        }
+        if names[..i].contains(&name) {
+            return Err((25, line));
+        }
+        names[i] = name;
+        curves[i][0] = place as u32;
+        curves[i][1] = name.len() as u32;
+    }
+    for (i, curve) in curves[..count].iter_mut().enumerate() {
+        let line = (count + 2 + i) as u32;
+        reader.body(&mut curve[2..]).ok_or((26, line))?;
+    }
+    if reader.rest.is_empty() {
+        Ok(count)
+    } else {
+        Err((27, 2 * count as u32 + 2))
+    }
+}
+
+/// The book's number, the count of curves and the line.
+#[inline(never)]
+pub fn read_book(text: &[u8], list: &mut [u32]) -> (u32, u32, u32) {
+    if list.len() < 10 * MOST_CURVES {
+        return (28, 0, 0);
+    }
+    if text.is_empty() || text.len() > LONGEST_TEXT {
+        return (21, 0, 0);
+    }
+    let mut curves = [[0; 10]; MOST_CURVES];
+    match read(text, &mut curves) {
+        Ok(count) => {
+            list[..10 * count].copy_from_slice(curves[..count].as_flattened());
+            (0, count as u32, 0)
+        }
+        Err((number, line)) => (number, 0, line),
+    }
+}
+
+#[cfg(test)]
+mod tests {
+    use super::read_book;
+
+    fn answer(text: &str) -> (u32, u32, u32) {
+        read_book(text.as_bytes(), &mut [0; 640])
+    }
+
+    #[test]
+    fn accepted() {
+        let mut list = [9; 641];
+        let text = b"1\nRAMP 3\n5 1 30 30000 60 600 20000 1\n";
+        assert_eq!(read_book(text, &mut list), (0, 1, 0));
+        assert_eq!(list[..11], [2, 4, 5, 1, 30, 30000, 60, 600, 20000, 1, 9]);
+        assert_eq!(read_book(text, &mut list[..639]), (28, 0, 0));
+    }
+
+    #[test]
+    fn refused() {
+        assert_eq!(answer(""), (21, 0, 0));
+        assert_eq!(answer("65\n"), (22, 0, 1));
+        assert_eq!(answer("01\n"), (22, 0, 1));
+        assert_eq!(answer("1"), (22, 0, 1));
+        assert_eq!(answer("1\n"), (23, 0, 2));
+        assert_eq!(answer("1\nA 4 \n"), (23, 0, 2));
+        assert_eq!(answer("1\nA 4\n"), (24, 0, 2));
+        assert_eq!(answer("1\nABCDEFGHI 3\n"), (23, 0, 2));
+        assert_eq!(answer("2\nA 4\nA 5\n"), (25, 0, 3));
+        assert_eq!(answer("1\nA 3\n1 2 3 4 5 6 7\n"), (26, 0, 3));
+        assert_eq!(answer("1\nA 3\n1 2 3 4 5 6 7 12345678\n"), (26, 0, 3));
+        assert_eq!(answer("1\nA 3\n1 2 3 4 5 6 7 8"), (26, 0, 3));
+        assert_eq!(answer("1\nA 3\n1 2 3 4 5 6 7 8\n\n"), (27, 0, 4));
+    }
+}

@@ -1,0 +1,281 @@
+//! A card's table, every row worked afresh from the card and its station.
+
+/// One line of the paper's table of profiles; lengths in mm, slopes in ‰.
+struct Profile {
+    half: i64,
+    shoulder: i64,
+    crown_slope: i64,
+    shoulder_slope: i64,
+    least_shoulder: i64,
+    least_radius: i64,
+    added_slope: [i64; 2],
+}
+
+/// A profile from its numbers in the order of the paper.
+const fn profile(n: [i64; 6], added_slope: [i64; 2]) -> Profile {
+    let [half, shoulder, crown_slope, shoulder_slope, least_shoulder, least_radius] = n;
+    Profile {
+        half,
+        shoulder,
+        crown_slope,
+        shoulder_slope,
+        least_shoulder,
+        least_radius,
+        added_slope,
+    }
+}
+
+static PROFILES: [Profile; 5] = [
+    profile([3750, 3750, 20, 40, 1500, 125], [5, 5]),
+    profile([3500, 2500, 20, 40, 1500, 100], [10, 20]),
+    profile([3000, 2000, 20, 50, 1000, 60], [10, 20]),
+    profile([3000, 2000, 30, 60, 1000, 30], [10, 20]),
+    profile([2250, 1750, 30, 60, 1000, 30], [10, 20]),
+];
+
+/// Radius and least clothoid length, both in metres.
+static LEAST_LENGTHS: [(i64, i64); 20] = [
+    (30, 30),
+    (40, 30),
+    (50, 35),
+    (60, 40),
+    (70, 40),
+    (80, 45),
+    (90, 45),
+    (100, 50),
+    (125, 55),
+    (150, 60),
+    (200, 70),
+    (250, 80),
+    (300, 90),
+    (400, 100),
+    (500, 110),
+    (600, 120),
+    (700, 120),
+    (800, 120),
+    (1000, 120),
+    (2000, 100),
+];
+
+/// Least clothoid length in mm; between two listed radii the longer holds.
+fn least_length(radius: i64) -> i64 {
+    let mut before = 0;
+    for &(listed, length) in &LEAST_LENGTHS {
+        if radius == listed {
+            return 1000 * length;
+        }
+        if radius < listed {
+            return 1000 * length.max(before);
+        }
+        before = length;
+    }
+    1000 * before
+}
+
+/// A whole number over a whole number above nought.
+#[derive(Clone, Copy)]
+struct Fraction {
+    top: i64,
+    bottom: i64,
+}
+
+impl Fraction {
+    /// The greater of the fraction and a whole number, over the same bottom.
+    fn at_least(self, whole: i64) -> Fraction {
+        let top = self.top.max(whole * self.bottom);
+        Fraction { top, ..self }
+    }
+}
+
+/// Nearest whole number; halfway goes to the lower, also below nought.
+fn round(top: i64, bottom: i64) -> i32 {
+    (2 * top + bottom - 1).div_euclid(2 * bottom) as i32
+}
+
+/// The first of the card's own reasons that applies, or 0.
+fn reason(card: &[u32; 8]) -> u32 {
+    let [kind, terrain, radius, length, slope, widening, step, unit] = card.map(i64::from);
+    if !(1..=5).contains(&kind) {
+        return 1;
+    }
+    if terrain != 1 && terrain != 2 {
+        return 2;
+    }
+    let profile = &PROFILES[kind as usize - 1];
+    let climb = profile.half * (profile.crown_slope + slope);
+    let added_slope = profile.added_slope[terrain as usize - 1];
+    if radius < profile.least_radius || radius > 2000 {
+        3
+    } else if length < least_length(radius) || length > 300_000 {
+        4
+    } else if slope < profile.crown_slope || slope > 60 {
+        5
+    } else if widening > 3500 || (widening > 0 && radius > 1000) {
+        6
+    } else if widening + profile.least_shoulder > profile.shoulder {
+        7
+    } else if climb > added_slope * length {
+        8
+    } else if !(1000..=20_000).contains(&step) {
+        9
+    } else if unit != 1 && unit != 10 {
+        10
+    } else {
+        0
+    }
+}
+
+enum Stages {
+    Even,
+    TwoStage,
+}
+
+/// An accepted card.
+struct Runoff {
+    profile: &'static Profile,
+    length: i64,
+    full_slope: i64,
+    full_widening: i64,
+    step: i64,
+    unit: i64,
+    stages: Stages,
+}
+
+impl Runoff {
+    /// The card's runoff, or the number of the first reason met.
+    fn from_card(card: &[u32; 8]) -> Result<Runoff, u32> {
+        let number = reason(card);
+        if number != 0 {
+            return Err(number);
+        }
+        let [kind, _, _, length, full_slope, full_widening, step, unit] = card.map(i64::from);
+        let profile = &PROFILES[kind as usize - 1];
+        let climb = profile.half * (profile.crown_slope + full_slope);
+        let stages = match climb >= 3 * length {
+            true => Stages::Even,
+            false => Stages::TwoStage,
+        };
+        Ok(Runoff {
+            profile,
+            length,
+            full_slope,
+            full_widening,
+            step,
+            unit,
+            stages,
+        })
+    }
+
+    /// Rows below the end, and the one at it.
+    fn rows(&self) -> usize {
+        ((self.length + self.step - 1) / self.step + 1) as usize
+    }
+
+    /// The outer slope at a station.
+    fn outer_slope(&self, station: i64) -> Fraction {
+        let (h, p, v) = (self.profile.half, self.profile.crown_slope, self.full_slope);
+        match self.stages {
+            Stages::Even => Fraction {
+                top: (p + v) * station - p * self.length,
+                bottom: self.length,
+            },
+            Stages::TwoStage if 3 * station <= 2 * h * p => Fraction {
+                top: 3 * station - p * h,
+                bottom: h,
+            },
+            Stages::TwoStage => {
+                let bottom = 3 * self.length - 2 * h * p;
+                let top = p * bottom + (v - p) * (3 * station - 2 * h * p);
+                Fraction { top, bottom }
+            }
+        }
+    }
+
+    /// The seven numbers of the row at a station.
+    fn row(&self, station: i64) -> [i32; 7] {
+        let (h, c) = (self.profile.half, self.profile.shoulder);
+        let (p, q) = (self.profile.crown_slope, self.profile.shoulder_slope);
+        let outer = self.outer_slope(station);
+        let inner = outer.at_least(p);
+        let side = inner.at_least(q);
+        let axis = c * q + h * p;
+        let outer_edge = axis * outer.bottom + h * outer.top;
+        let outer_brow = outer_edge + c * outer.top;
+        // On the inner side all stands over the length too, for the widening.
+        let widening = self.full_widening * station;
+        let bottom = inner.bottom * self.length;
+        let inner_edge = axis * bottom - (h * self.length + widening) * inner.top;
+        let inner_brow = inner_edge - (c * self.length - widening) * side.top;
+        let unit = 1000 * self.unit;
+        [
+            station as i32,
+            round(widening, self.length * self.unit),
+            round(inner_brow, bottom * unit),
+            round(inner_edge, bottom * unit),
+            round(axis, unit),
+            round(outer_edge, outer.bottom * unit),
+            round(outer_brow, outer.bottom * unit),
+        ]
+    }
+}
+
+/// The card's number and the count of rows left in the table.
+#[inline(never)]
+pub fn fill_table(card: &[u32; 8], table: &mut [i32]) -> (u32, u32) {
+    let runoff = match Runoff::from_card(card) {
+        Ok(runoff) => runoff,
+        Err(number) => return (number, 0),
+    };
+    let rows = runoff.rows();
+    if table.len() < 7 * rows {
+        return (11, 0);
+    }
+    let mut station = 0;
+    for row in table[..7 * rows].chunks_exact_mut(7) {
+        row.copy_from_slice(&runoff.row(station.min(runoff.length)));
+        station += runoff.step;
+    }
+    (0, rows as u32)
+}
+
+#[cfg(test)]
+mod tests {
+    use super::fill_table;
+
+    #[test]
+    fn ramp() {
+        let mut table = [5; 22];
+        let card = [5, 1, 30, 30000, 60, 600, 20000, 1];
+        assert_eq!(fill_table(&card, &mut table), (0, 3));
+        assert_eq!(table[..7], [0, 0, 0, 105, 172, 105, 52]);
+        assert_eq!(table[7..14], [20000, 400, 12, 93, 172, 240, 292]);
+        assert_eq!(table[14..], [30000, 600, -68, 1, 172, 307, 412, 5]);
+    }
+
+    #[test]
+    fn two_stage() {
+        let mut table = [0; 49];
+        let card = [3, 1, 700, 120_000, 40, 400, 20000, 10];
+        assert_eq!(fill_table(&card, &mut table), (0, 7));
+        let edges = [0, 2, 3, 5, 6].map(|row: usize| table[7 * row + 5]);
+        assert_eq!(edges, [10, 22, 23, 26, 28]);
+        assert_eq!(table[44..46], [-6, 2]);
+        assert_eq!(fill_table(&card, &mut table[..48]), (11, 0));
+    }
+
+    #[test]
+    fn refused() {
+        let number = |card| fill_table(&card, &mut []).0;
+        assert_eq!(number([1, 1, 125, 55000, 60, 0, 20000, 1]), 8);
+        assert_eq!(number([1, 1, 125, 60000, 60, 0, 20000, 1]), 11);
+        assert_eq!(number([2, 1, 225, 79999, 40, 0, 20000, 1]), 4);
+        assert_eq!(number([2, 1, 225, 80000, 40, 0, 20000, 1]), 11);
+        assert_eq!(number([2, 1, 1500, 119_999, 40, 0, 20000, 1]), 4);
+        assert_eq!(number([2, 1, 2000, 100_000, 40, 0, 20000, 1]), 11);
+        assert_eq!(number([4, 1, 100, 100_000, 29, 0, 20000, 1]), 5);
+        assert_eq!(number([2, 1, 1000, 120_000, 40, 1001, 20000, 1]), 7);
+        assert_eq!(number([2, 1, 1000, 120_000, 40, 3501, 20000, 1]), 6);
+        assert_eq!(number([2, 1, 1001, 120_000, 40, 1, 20000, 1]), 6);
+        assert_eq!(number([0, 1, 1001, 120_000, 40, 1, 0, 1]), 1);
+    }
+}

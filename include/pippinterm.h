@@ -2,15 +2,16 @@
  * Pippinterm: the table of heights of a curve card, and the book of cards.
  *
  * Link target/staticlib/libcapi.a, which `rt staticlib capi` proves and builds.
- * Needs no start-up and no other library; keeps nothing between two calls, so
- * that calls from several threads do not meet.
+ * It needs memcpy and memset of the C library, less than 4 KB of stack, and no
+ * start-up; it keeps nothing between two calls, so that calls from several
+ * threads do not meet.
  *
  * No call asks for a test beforehand: every card, every text and every length
  * has its reply. Only the C side can see to this much:
  *   - a pointer leads to as many numbers as are said to be there (NULL will do
- *     where the length given with it is 0);
+ *     where the length given with it is 0), and they lie as C aligns them;
  *   - what is lent for writing in one call shares no memory with anything else
- *     that is lent in it.
+ *     that is lent in it, and nothing else writes there while the call runs.
  */
 #ifndef PIPPINTERM_H
 #define PIPPINTERM_H

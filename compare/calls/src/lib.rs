@@ -1,5 +1,8 @@
 //! The library's three calls, over slices. An empty slice crosses as NULL, as the header allows.
 
+#[cfg(test)]
+mod header;
+
 use std::ptr;
 
 extern "C" {

@@ -1,0 +1,75 @@
+//! The constants of the header beside the figures of the paper.
+
+const HEADER: &str = include_str!("../../../include/pippinterm.h");
+
+/// "What a turned-away card or book says", by the trade's word.
+const REFUSALS: [(&str, u32); 19] = [
+    ("profile", 1),
+    ("terrain", 2),
+    ("radius", 3),
+    ("clothoid", 4),
+    ("full slope", 5),
+    ("widening", 6),
+    ("narrow shoulder", 7),
+    ("added slope", 8),
+    ("step", 9),
+    ("unit", 10),
+    ("short table", 11),
+    ("book size", 21),
+    ("count line", 22),
+    ("contents line", 23),
+    ("wrong line", 24),
+    ("twin name", 25),
+    ("body", 26),
+    ("tail", 27),
+    ("short list", 28),
+];
+
+/// The card, the row, the list, and the sizes; 0 for an accepted card or book.
+const OTHERS: [(&str, u32); 27] = [
+    ("accepted", 0),
+    ("card profile", 0),
+    ("card terrain", 1),
+    ("card radius", 2),
+    ("card clothoid", 3),
+    ("card slope", 4),
+    ("card widening", 5),
+    ("card step", 6),
+    ("card unit", 7),
+    ("card numbers", 8),
+    ("row station", 0),
+    ("row widening", 1),
+    ("row inner brow", 2),
+    ("row inner edge", 3),
+    ("row axis", 4),
+    ("row outer edge", 5),
+    ("row outer brow", 6),
+    ("row numbers", 7),
+    ("curve name place", 0),
+    ("curve name size", 1),
+    ("curve card", 2),
+    ("curve numbers", 10),
+    ("most rows", 300_000 / 1000 + 1),
+    ("enough table", 7 * 301),
+    ("most curves", 64),
+    ("most bytes", 8192),
+    ("least list", 640),
+];
+
+/// The word and the number of a line that has a constant.
+fn constant(line: &str) -> Option<(String, u32)> {
+    let (name, rest) = line.trim().strip_prefix("PIPPINTERM_")?.split_once(" = ")?;
+    let digits: String = rest.chars().take_while(char::is_ascii_digit).collect();
+    let word = name.to_lowercase().replace('_', " ");
+    Some((word, digits.parse().ok()?))
+}
+
+#[test]
+fn constants_are_the_papers() {
+    let mut there: Vec<_> = HEADER.lines().filter_map(constant).collect();
+    let due = REFUSALS.iter().chain(&OTHERS);
+    let mut due: Vec<_> = due.map(|&(word, n)| (word.to_string(), n)).collect();
+    there.sort();
+    due.sort();
+    assert_eq!(there, due);
+}

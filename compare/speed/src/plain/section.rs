@@ -1,5 +1,7 @@
 //! A card's table, every row worked afresh from the card and its station.
 
+use paper::card::LEAST_LENGTHS;
+
 /// One line of the paper's table of profiles; lengths in mm, slopes in ‰.
 struct Profile {
     half: i64,
@@ -33,34 +35,11 @@ static PROFILES: [Profile; 5] = [
     profile([2250, 1750, 30, 60, 1000, 30], [10, 20]),
 ];
 
-/// Radius and least clothoid length, both in metres.
-static LEAST_LENGTHS: [(i64, i64); 20] = [
-    (30, 30),
-    (40, 30),
-    (50, 35),
-    (60, 40),
-    (70, 40),
-    (80, 45),
-    (90, 45),
-    (100, 50),
-    (125, 55),
-    (150, 60),
-    (200, 70),
-    (250, 80),
-    (300, 90),
-    (400, 100),
-    (500, 110),
-    (600, 120),
-    (700, 120),
-    (800, 120),
-    (1000, 120),
-    (2000, 100),
-];
-
 /// Least clothoid length in mm; between two listed radii the longer holds.
 fn least_length(radius: i64) -> i64 {
     let mut before = 0;
     for &(listed, length) in &LEAST_LENGTHS {
+        let (listed, length) = (i64::from(listed), i64::from(length));
         if radius == listed {
             return 1000 * length;
         }

@@ -91,7 +91,7 @@ fn end_byte(left: u32) -> u8
 }
 
 // A body: eight numbers with one blank between, which are drafted from the place `start` on.
-pub(crate) fn body(text: &[u8], from: usize, draft: &mut [u32], start: usize) -> Line
+fn body(text: &[u8], from: usize, draft: &mut [u32], start: usize) -> Line
     requires { ⌜ from ≤ length (now text) ⌝ }
     requires { ⌜ start + cardNumbers ≤ length (now draft) ⌝ }
     ensures { λ r. ⌜ r ≡ bodyFrom cardNumbers (now (text .entry)) from ⌝ }

@@ -162,7 +162,7 @@ module _ (text : List ℕ) where
   -- a key among those of the earlier names is a twin's
   pub keys-twin : (earlier : List ℕ) (at size : ℕ) → size ≡ nameAt text at → 0 < size → AllNamed earlier
       → among (keysAt text earlier) (keyAt text at) ≡ twinAt text earlier at size
-  unfolding Each keysAt among twinAt
+  unfolding Each among twinAt
   keys-twin [] at size e some named = refl
   keys-twin (place ∷ earlier) at size e some named =
       rw (key-test place at (named .0) (omega arith), keys-twin earlier at size e some (named .1), e)

@@ -7,10 +7,10 @@ use mathlib.Core.List.{List}
 use native.Mathlib.Omega.{arith}
 use lib.ListN.{length}
 use lib.Dec.{eqb, lit<}
-use borrow.Author.Tests.{eqb-false, eq-eqb, ne-eqb}
+use borrow.Author.Tests.{eq-eqb, ne-eqb}
 use Rattle.book.specs.Number.{numberAt}
 use Rattle.book.specs.Name.{nameAt, twinAt}
-use Rattle.book.specs.Contents.{headed, headingAt, contentsLineOf, contentsLine, headingNext, afterHeading}
+use Rattle.book.specs.Contents.{headed, headingAt, contentsLineOf, contentsLine}
 use Rattle.book.specs.Body.{cardNumbers, endOf, fieldThen, bodyFrom}
 use Rattle.book.specs.declared.text.Field.{Field}
 use Rattle.book.specs.declared.text.Field.the-variants.{Value, NoValue}
@@ -19,7 +19,6 @@ use Rattle.book.specs.declared.lines.Heading.the-variants.{Entry, NoEntr
 use Rattle.book.specs.declared.lines.Line.{Line}
 use Rattle.book.specs.declared.lines.Line.the-variants.{Next, Fault}
 use Rattle.book.proofs.Places.{cond-case, none-left, FieldIn, field-in}
-use Rattle.book.proofs.Names.{name-in}
 
 -- a blank stands before another number of a body
 pub end-some : (k : ℕ) → (k ≡ 0 → ⊥) → endOf k ≡ 32
@@ -89,33 +88,20 @@ module _ (text : List ℕ) (at : ℕ) where
   unfolding headingAt
   heading-is n e h = simp (← e, ne-eqb _ _ h)
 
--- the place after a contents line and the bytes of its name lie inside the text
-abbrev HeadingIn : List ℕ → ℕ → Heading → Type 0
-HeadingIn text at (Entry n v next) = (next ≤ length text) × (at + n ≤ length text)
-HeadingIn text at NoEntry = Unit
+-- the place after a contents line is at most m
+abbrev HeadingIn : ℕ → Heading → Type 0
+HeadingIn m (Entry n v next) = next ≤ m
+HeadingIn m NoEntry = Unit
 
-headed-in : (text : List ℕ) (at n : ℕ) (f : Field) → at + n ≤ length text → FieldIn (length text) f → HeadingIn text at (headed n f)
-headed-in text at n (Value v next) l h = (h, l)
-headed-in text at n NoValue l h = tt
+headed-in : (m n : ℕ) (f : Field) → FieldIn m f → HeadingIn m (headed n f)
+headed-in m n (Value v next) h = h
+headed-in m n NoValue h = tt
 
-heading-in : (text : List ℕ) (at : ℕ) → HeadingIn text at (headingAt text at)
+heading-in : (text : List ℕ) (at : ℕ) → HeadingIn (length text) (headingAt text at)
 unfolding headingAt
 heading-in text at =
-    cond-case (HeadingIn text at) (eqb (nameAt text at) 0) _ _ (λ t. tt)
-    (λ t.
-    let z : nameAt text at ≡ 0 → ⊥ = eqb-false _ _ t in
-    headed-in text at (nameAt text at) (numberAt text (at + nameAt text at + 1) 10)
-    (omega (arith, name-in text at (omega arith)))
-    (field-in text 10 (lit< tt) (at + nameAt text at + 1)))
-
-heading-next-in : (text : List ℕ) (at : ℕ) (h : Heading) → at ≤ length text → HeadingIn text at h → headingNext at h ≤ length text
-heading-next-in text at (Entry n v next) l i = i .0
-heading-next-in text at NoEntry l i = l
-
--- the place after a contents line lies inside the text or at its end
-pub after-in : (text : List ℕ) (at : ℕ) → at ≤ length text → afterHeading text at ≤ length text
-unfolding afterHeading
-after-in text at l = heading-next-in text at (headingAt text at) l (heading-in text at)
+    cond-case (HeadingIn (length text)) (eqb (nameAt text at) 0) _ _ (λ t. tt)
+    (λ t. headed-in (length text) (nameAt text at) (numberAt text (at + nameAt text at + 1) 10) (field-in text 10 (lit< tt) (at + nameAt text at + 1)))
 
 -- the number of a fault is not 0
 abbrev Faulty : Line → Type 0
@@ -123,11 +109,11 @@ Faulty (Next p) = Unit
 Faulty (Fault number) = 0 < number
 
 module _ (text earlier : List ℕ) (at due : ℕ) where
-  line-of-in : (h : Heading) → HeadingIn text at h → LineIn (length text) (contentsLineOf text earlier at due h)
+  line-of-in : (h : Heading) → HeadingIn (length text) h → LineIn (length text) (contentsLineOf text earlier at due h)
   line-of-in NoEntry h = tt
   line-of-in (Entry size v next) h =
       cond-case (LineIn (length text)) (eqb v due) _ _
-      (λ t. cond-case (LineIn (length text)) (twinAt text earlier at size) _ _ (λ u. tt) (λ u. h .0))
+      (λ t. cond-case (LineIn (length text)) (twinAt text earlier at size) _ _ (λ u. tt) (λ u. h))
       (λ t. tt)
 
   contents-in : LineIn (length text) (contentsLine text earlier at due)

@@ -10,7 +10,7 @@ use native.Mathlib.Numerals.{add-one}
 use lib.ListN.{length}
 use lib.Dec.{ltb, eqb}
 use borrow.Author.Tests.{lt-ltb, le-ltb, eqb-true, eq-eqb, ne-eqb}
-use Rattle.book.specs.Number.{byteAt, digitOf, digitAt, endedAt, digitsAt, numberAt, fieldNext}
+use Rattle.book.specs.Number.{byteAt, digitOf, digitAt, endedAt, digitsAt, numberAt}
 use Rattle.book.specs.declared.text.Field.{Field}
 use Rattle.book.specs.declared.text.Field.the-variants.{Value, NoValue}
 
@@ -118,11 +118,3 @@ module _ (text : List ℕ) (end : ℕ) (above : 0 < end) where
   -- the same of a number that was read
   pub field-next : (at : ℕ) {v next : ℕ} → numberAt text at end ≡ Value v next → next ≤ length text
   field-next at q = subst (FieldIn (length text)) q (field-in at)
-
-  -- the same where there may be no number
-  pub field-next-in : (at : ℕ) → at ≤ length text → fieldNext at (numberAt text at end) ≤ length text
-  field-next-in at l = next-in (numberAt text at end) (field-in at)
-    where
-      next-in : (f : Field) → FieldIn (length text) f → fieldNext at f ≤ length text
-      next-in (Value v next) h = h
-      next-in NoValue h = l

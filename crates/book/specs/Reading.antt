@@ -2,14 +2,15 @@
 -- as they are drafted. Book.antt says what is read, and no public contract cites this file.
 -- Assumes nothing.
 use Prim.Native.Nat.{ℕ, zero, suc, _+_, _*_}
-use mathlib.Core.List.{List, [], _∷_, _++_}
+use mathlib.Core.List.{List, [], _∷_, _++_, map}
 use mathlib.Core.Bool.{Bool, true, false, cond}
 use lib.Dec.{eqb}
 use Rattle.book.specs.Number.{byteAt}
-use Rattle.book.specs.Name.{nameRun}
+use Rattle.book.specs.Name.{nameRun, nameAt}
 use Rattle.book.specs.Contents.{afterHeading}
 use Rattle.book.specs.Body.{cardNumbers, afterNumbers}
 use Rattle.book.specs.Book.{entryAt}
+use Rattle.book.specs.declared.text.ReadName.{ReadName}
 use Rattle.book.specs.declared.lines.Heading.{Heading}
 use Rattle.book.specs.declared.lines.Heading.the-variants.{Entry, NoEntry}
 use Rattle.book.specs.declared.lines.Line.{Line}
@@ -24,10 +25,20 @@ keyFrom (suc n) text at = keyFrom n text at * 256 + byteAt text (at + n)
 abbrev pub keyAt : List ℕ → ℕ → ℕ
 keyAt text at = keyFrom (nameRun 8 text at) text at
 
--- the keys of the names at several places
-unfoldable pub keysAt : List ℕ → List ℕ → List ℕ
-keysAt text [] = []
-keysAt text (place ∷ places) = keyAt text place ∷ keysAt text places
+-- the bytes of a name at a place, whatever stands after them: how many, and their key
+abbrev pub runAt : List ℕ → ℕ → ReadName
+runAt text at = record { size = nameRun 8 text at; key = keyAt text at }
+
+-- the name at a place: its size, 0 where there is none, and its key
+abbrev pub readAt : List ℕ → ℕ → ReadName
+readAt text at = record { size = nameAt text at; key = keyAt text at }
+
+-- the keys and the sizes of the names at several places
+abbrev pub keysAt : List ℕ → List ℕ → List ℕ
+keysAt text places = map (keyAt text) places
+
+abbrev pub sizesAt : List ℕ → List ℕ → List ℕ
+sizesAt text places = map (nameAt text) places
 
 -- whether a key is one of these
 unfoldable pub among : List ℕ → ℕ → Bool

@@ -1,15 +1,16 @@
 // Contents lines and bodies.
 use crate::CARD_NUMBERS;
 use crate::text::Field;
-use crate::text::name_size;
+use crate::text::ReadName;
 use crate::text::read_number;
 ghost use mathlib.Core.Path.{_≡_};
 ghost use Prim.Native.Nat.{ℕ, _+_, _≤_};
 ghost use lib.ListN.{length};
 ghost use lib.Seq.{sets};
+ghost use Rattle.book.specs.Name.{nameAt};
 ghost use Rattle.book.specs.Contents.{headingAt};
 ghost use Rattle.book.specs.Body.{cardNumbers, endOf, bodyFrom, numbersAt};
-ghost use Rattle.book.specs.Book.{mostBytes, curveWidth, entryAt};
+ghost use Rattle.book.specs.Book.{curveWidth, entryAt};
 ghost use Rattle.book.specs.Reading.{among, lineBy};
 
 // A contents line: the size of its name, its number, and the place after it.
@@ -28,12 +29,11 @@ pub(crate) enum Line {
     Fault(u32),
 }
 
-// A contents line.
-fn read_heading(text: &[u8], at: usize) -> Heading
-    requires { ⌜ at ≤ length (now text) ⌝ }
+// A contents line, whose name has this size.
+fn read_heading(text: &[u8], at: usize, size: usize) -> Heading
+    requires { ⌜ size ≡ nameAt (now text) at ⌝ }
     ensures { λ r. ⌜ r ≡ headingAt (now (text .entry)) at ⌝ }
 {
-    let size = name_size(text, at);
     if size == 0 {
         return Heading::NoEntry;
     }
@@ -58,12 +58,14 @@ fn is_among(keys: &[u64], key: u64) -> bool
     false
 }
 
-// A contents line that must name the line `due`; its name has this key, and `keys` are those of the names before.
-pub(crate) fn contents_line(text: &[u8], keys: &[u64], key: u64, at: usize, due: u32) -> Line
-    requires { ⌜ at ≤ length (now text) ⌝ }
-    ensures { λ r. ⌜ r ≡ lineBy (now (keys .entry)) key due (headingAt (now (text .entry)) at) ⌝ }
+// A contents line with this name, that must name the line `due`; `keys` are those of the names before.
+pub(crate) fn contents_line(text: &[u8], keys: &[u64], name: ReadName, at: usize, due: u32) -> Line
+    requires { ⌜ name .size ≡ nameAt (now text) at ⌝ }
+    ensures { λ r. ⌜ r ≡ lineBy (now (keys .entry)) (name .key) due (headingAt (now (text .entry)) at) ⌝ }
 {
-    let heading = read_heading(text, at);
+    let size = name.size;
+    let key = name.key;
+    let heading = read_heading(text, at, size);
     match heading {
         Heading::NoEntry => Line::Fault(23),
         Heading::Entry {
@@ -118,17 +120,22 @@ fn body(text: &[u8], from: usize, draft: &mut [u32], start: usize) -> Line
     Line::Next(at)
 }
 
-// The ten numbers of a curve, whose contents line stands at `heading` and whose body at `from`, drafted from the place `out` on.
-pub(crate) fn curve(text: &[u8], heading: usize, from: usize, draft: &mut [u32], out: usize) -> Line
-    requires { ⌜ length (now text) ≤ mostBytes ⌝ }
-    requires { ⌜ heading ≤ length (now text) ⌝ }
+// The ten numbers of a curve, whose name stands at `place` and has this size, and whose body stands at `from`: drafted from `out` on.
+pub(crate) fn curve(
+    text: &[u8],
+    place: u32,
+    size: u32,
+    from: usize,
+    draft: &mut [u32],
+    out: usize,
+) -> Line
+    requires { ⌜ size ≡ nameAt (now text) place ⌝ }
     requires { ⌜ from ≤ length (now text) ⌝ }
     requires { ⌜ out + curveWidth ≤ length (now draft) ⌝ }
     ensures { λ r. ⌜ r ≡ bodyFrom cardNumbers (now (text .entry)) from ⌝ }
-    ensures { λ r. ⌜ ((p : ℕ) → r ≡ Line.Next p → now (draft .exit) ≡ sets (now (draft .entry)) out (entryAt (now (text .entry)) heading from)) ⌝ }
+    ensures { λ r. ⌜ ((p : ℕ) → r ≡ Line.Next p → now (draft .exit) ≡ sets (now (draft .entry)) out (entryAt (now (text .entry)) place from)) ⌝ }
 {
-    let size = name_size(text, heading);
-    draft[out] = heading as u32;
-    draft[out + 1] = size as u32;
+    draft[out] = place;
+    draft[out + 1] = size;
     body(text, from, draft, out + 2)
 }

@@ -7,17 +7,17 @@ use crate::lines::Line;
 use crate::lines::contents_line;
 use crate::lines::curve;
 use crate::text::Field;
-use crate::text::name_key;
+use crate::text::read_name;
 use crate::text::read_number;
 ghost use mathlib.Core.Path.{_≡_};
-ghost use Prim.Native.Nat.{ℕ, _≤_};
+ghost use Prim.Native.Nat.{_≤_};
 ghost use mathlib.Core.List.{[]};
-ghost use lib.ListN.{length, getD};
+ghost use lib.ListN.{length};
 ghost use lib.Seq.{sets};
 ghost use Rattle.book.specs.Book.{mostCurves, mostBytes, leastList, bodiesFrom, contentsFrom, textReply, refusedOf, afterHeadings, entriesFrom, entriesOf};
-ghost use Rattle.book.specs.Reading.{entriesBy};
+ghost use Rattle.book.specs.Reading.{sizesAt, entriesBy};
 
-// Room for the place and the key of each name.
+// Room for the place, the size and the key of each name.
 const PLACES: usize = 64;
 
 // A refused book: its number, count 0 and the line.
@@ -31,10 +31,17 @@ pub(crate) fn refused(number: u32, line: u32) -> BookReply
     }
 }
 
-// The n bodies, and the end of the text after them. The curves are drafted; `places` are those of their contents lines.
-fn bodies(text: &[u8], n: u32, from: usize, places: &[u32], draft: &mut [u32]) -> BookReply
-    requires { ⌜ (n ≤ mostCurves) × ((length (now text) ≤ mostBytes) × (from ≤ length (now text))) ⌝ }
-    requires { ⌜ (length (now places) ≡ n) × ((i : ℕ) → getD (now places) i 0 ≤ length (now text)) ⌝ }
+// The n bodies, and the end of the text after them. The curves are drafted; their names have these places and sizes.
+fn bodies(
+    text: &[u8],
+    n: u32,
+    from: usize,
+    places: &[u32],
+    sizes: &[u32],
+    draft: &mut [u32],
+) -> BookReply
+    requires { ⌜ (n ≤ mostCurves) × (from ≤ length (now text)) ⌝ }
+    requires { ⌜ (length (now places) ≡ n) × (now sizes ≡ sizesAt (now text) (now places)) ⌝ }
     requires { ⌜ leastList ≤ length (now draft) ⌝ }
     ensures { λ r. ⌜ r ≡ bodiesFrom n (now (text .entry)) n 0 from ⌝ }
     ensures { λ r. ⌜ (r .number ≡ 0 → (r .count ≡ n) × (now (draft .exit) ≡ sets (now (draft .entry)) 0 (entriesBy (now (text .entry)) (now (places .entry)) from))) ⌝ }
@@ -43,8 +50,9 @@ fn bodies(text: &[u8], n: u32, from: usize, places: &[u32], draft: &mut [u32]) -
     let mut i: u32 = 0;
     while i < n {
         let k = i as usize;
-        let heading = places[k] as usize;
-        let line = curve(text, heading, at, draft, CURVE_WIDTH * k);
+        let place = places[k];
+        let size = sizes[k];
+        let line = curve(text, place, size, at, draft, CURVE_WIDTH * k);
         match line {
             Line::Next(next) => {
                 at = next;
@@ -65,7 +73,7 @@ fn bodies(text: &[u8], n: u32, from: usize, places: &[u32], draft: &mut [u32]) -
     refused(27, n + n + 2)
 }
 
-// The n contents lines, and what follows them. The places of their names are kept for the draft, and their keys for the twin test.
+// The n contents lines, and what follows them. The places and sizes of the names are kept for the draft, and their keys for the twin test.
 fn contents(text: &[u8], n: u32, first: usize, draft: &mut [u32]) -> BookReply
     requires { ⌜ (n ≤ mostCurves) × ((length (now text) ≤ mostBytes) × (first ≤ length (now text))) ⌝ }
     requires { ⌜ leastList ≤ length (now draft) ⌝ }
@@ -74,16 +82,20 @@ fn contents(text: &[u8], n: u32, first: usize, draft: &mut [u32]) -> BookReply
 {
     let mut keys = [0u64; PLACES];
     let mut places = [0u32; PLACES];
+    let mut sizes = [0u32; PLACES];
     let mut at = first;
     let mut i: u32 = 0;
     while i < n {
         let used = i as usize;
-        let key = name_key(text, at);
-        let line = contents_line(text, &keys[..used], key, at, n + i + 2);
+        let name = read_name(text, at);
+        let key = name.key;
+        let size = name.size;
+        let line = contents_line(text, &keys[..used], name, at, n + i + 2);
         match line {
             Line::Next(next) => {
                 keys[used] = key;
                 places[used] = at as u32;
+                sizes[used] = size as u32;
                 at = next;
             }
             Line::Fault(number) => {
@@ -93,7 +105,7 @@ fn contents(text: &[u8], n: u32, first: usize, draft: &mut [u32]) -> BookReply
         i = i + 1;
     }
     let count = n as usize;
-    bodies(text, n, at, &places[..count], draft)
+    bodies(text, n, at, &places[..count], &sizes[..count], draft)
 }
 
 // The reply to a text, where the list is long enough. Of an accepted text the curves stand in the draft afterwards.

@@ -2,9 +2,10 @@
 ghost use mathlib.Core.Path.{_≡_};
 ghost use Prim.Native.Nat.{_≤_, _<_};
 ghost use lib.ListN.{length};
+ghost use lib.Dec.{ltb};
 ghost use Rattle.book.specs.Number.{byteAt, digitAt, endedAt, digitsAt, numberAt};
-ghost use Rattle.book.specs.Name.{isNameByte, nameRun, nameAt};
-ghost use Rattle.book.specs.Reading.{keyAt};
+ghost use Rattle.book.specs.Name.{isNameByte};
+ghost use Rattle.book.specs.Reading.{runAt, readAt};
 
 // A number and the place after the byte that ends it.
 pub(crate) enum Field {
@@ -12,11 +13,31 @@ pub(crate) enum Field {
     NoValue,
 }
 
+// A name as it is read: its size, and its bytes as one number.
+pub(crate) struct ReadName {
+    pub size: usize,
+    pub key: u64,
+}
+
 // The byte at a place; 0 past the end.
 fn byte_at(text: &[u8], at: usize) -> u8
     ensures { λ r. ⌜ r ≡ byteAt (now (text .entry)) at ⌝ }
 {
     if at < text.len() { text[at] } else { 0 }
+}
+
+// Whether a digit stands at a place.
+fn is_digit_at(text: &[u8], at: usize) -> bool
+    ensures { λ r. ⌜ r ≡ ltb (digitAt (now (text .entry)) at) 10 ⌝ }
+{
+    let b = byte_at(text, at);
+    if b < 48 {
+        return false;
+    }
+    if 57 < b {
+        return false;
+    }
+    true
 }
 
 // The value of the digit at a place; 10 where no digit stands.
@@ -58,10 +79,11 @@ fn digits(text: &[u8], from: usize, first: u32, end: u8) -> Field
     let mut value = first;
     let mut n: u32 = 0;
     while n < 6 {
-        let d = digit_at(text, at);
-        if 9 < d {
+        let more = is_digit_at(text, at);
+        if !more {
             return ended(text, at, value, end);
         }
+        let d = digit_at(text, at);
         value = value * 10 + d;
         at = at + 1;
         n = n + 1;
@@ -104,47 +126,37 @@ fn name_byte_at(text: &[u8], at: usize) -> bool
     false
 }
 
-// How many bytes of a name stand from a place on, of at most eight.
-fn name_run(text: &[u8], from: usize) -> usize
+// The bytes of a name from a place on, of at most eight.
+fn name_run(text: &[u8], from: usize) -> ReadName
     requires { ⌜ from ≤ length (now text) ⌝ }
-    ensures { λ r. ⌜ r ≡ nameRun 8 (now (text .entry)) from ⌝ }
-{
-    let mut n: usize = 0;
-    while n < 8 {
-        let more = name_byte_at(text, from + n);
-        if !more {
-            return n;
-        }
-        n = n + 1;
-    }
-    n
-}
-
-// The size of the name at a place, with a blank after it; 0 where there is none.
-pub(crate) fn name_size(text: &[u8], at: usize) -> usize
-    requires { ⌜ at ≤ length (now text) ⌝ }
-    ensures { λ r. ⌜ r ≡ nameAt (now (text .entry)) at ⌝ }
-{
-    let n = name_run(text, at);
-    let b = byte_at(text, at + n);
-    if b == 32 { n } else { 0 }
-}
-
-// The bytes of the name at a place, as one number: two names have the same one only where they are the same.
-pub(crate) fn name_key(text: &[u8], from: usize) -> u64
-    requires { ⌜ from ≤ length (now text) ⌝ }
-    ensures { λ r. ⌜ r ≡ keyAt (now (text .entry)) from ⌝ }
+    ensures { λ r. ⌜ r ≡ runAt (now (text .entry)) from ⌝ }
 {
     let mut key: u64 = 0;
     let mut n: usize = 0;
     while n < 8 {
         let more = name_byte_at(text, from + n);
         if !more {
-            return key;
+            return ReadName { size: n, key };
         }
         let b = byte_at(text, from + n);
         key = key * 256 + b as u64;
         n = n + 1;
     }
-    key
+    ReadName { size: n, key }
+}
+
+// The name at a place, with a blank after it; of size 0 where there is none.
+pub(crate) fn read_name(text: &[u8], at: usize) -> ReadName
+    requires { ⌜ at ≤ length (now text) ⌝ }
+    ensures { λ r. ⌜ r ≡ readAt (now (text .entry)) at ⌝ }
+{
+    let run = name_run(text, at);
+    let n = run.size;
+    let key = run.key;
+    let b = byte_at(text, at + n);
+    if b == 32 {
+        ReadName { size: n, key }
+    } else {
+        ReadName { size: 0, key }
+    }
 }

@@ -20,7 +20,7 @@ returns : tie.Need-returns
 returns c =
     let a = c .before .before .before .before .before .before .before .args in
     let e = sym (c .before .before .before .before .read-heading .ensures) ∙ c .before .before .heading .given .1 in
-    sym (ap (lineBy (a .keys .now) (a .key) (a .due)) e ∙ simp (ne-eqb _ _ (c .if1 .taken)))
+    sym (ap (lineBy (a .keys .now) (a .name .key) (a .due)) e ∙ simp (ne-eqb _ _ (c .if1 .taken)))
 
 is-among-requires : tie.Need-is-among-requires
 is-among-requires c κs = search needs
@@ -29,19 +29,19 @@ returns-2 : tie.Need-returns-2
 returns-2 c =
     let a = c .before .before .before .before .before .before .before .before .before .args in
     let e = sym (c .before .before .before .before .before .before .read-heading .ensures) ∙ c .before .before .before .before .heading .given .1 in
-    sym (ap (lineBy (a .keys .now) (a .key) (a .due)) e
+    sym (ap (lineBy (a .keys .now) (a .name .key) (a .due)) e
     ∙ simp (eq-eqb _ _ (c .before .before .if1 .left), sym (c .before .is-among .ensures) ∙ c .if2 .taken))
 
 returns-3 : tie.Need-returns-3
 returns-3 c =
     let a = c .before .before .before .before .before .args in
-    ap (lineBy (a .keys .now) (a .key) (a .due)) (sym (c .enum-told .given .1) ∙ c .before .before .read-heading .ensures)
+    ap (lineBy (a .keys .now) (a .name .key) (a .due)) (sym (c .enum-told .given .1) ∙ c .before .before .read-heading .ensures)
 
 returns-4 : tie.Need-returns-4
 returns-4 c =
     let a = c .before .before .before .before .before .before .before .before .before .args in
     let e = sym (c .before .before .before .before .before .before .read-heading .ensures) ∙ c .before .before .before .before .heading .given .1 in
-    sym (ap (lineBy (a .keys .now) (a .key) (a .due)) e
+    sym (ap (lineBy (a .keys .now) (a .name .key) (a .due)) e
     ∙ simp (eq-eqb _ _ (c .before .before .if1 .left), sym (c .before .is-among .ensures) ∙ c .if2 .left))
 
 pub contents-line-spec : {M : Type 1} → statement M

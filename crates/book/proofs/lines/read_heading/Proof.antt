@@ -9,20 +9,17 @@ use Rattle.book.proofs.LineLaws.{heading-none, heading-is}
 use Rattle.book.proofs.lines.read_heading.Statement.{statement}
 use Rattle.book.proofs.lines.read_heading.Tie as tie
 
-name-size-requires : tie.Need-name-size-requires
-name-size-requires c κs = search needs
-
 returns : tie.Need-returns
-returns c = let a = c .before .before .before .args in sym (heading-none (a .text .now) (a .at) (sym (c .before .name-size .ensures) ∙ c .if1 .taken))
+returns c = let a = c .before .before .args in sym (heading-none (a .text .now) (a .at) (sym (c .before .before .pre) ∙ c .if1 .taken))
 
 add-read-number : tie.Need-add-read-number
-add-read-number c = let a = c .before .before .before .args in omega (arith, name-in (a .text .now) (a .at) (omega arith))
+add-read-number c = let a = c .before .before .args in omega (arith, name-in (a .text .now) (a .at) (omega arith))
 
 add-read-number-2 : tie.Need-add-read-number-2
-add-read-number-2 c = let a = c .before .before .before .args in omega (arith, name-in (a .text .now) (a .at) (omega arith))
+add-read-number-2 c = let a = c .before .before .args in omega (arith, name-in (a .text .now) (a .at) (omega arith))
 
 read-number-requires : tie.Need-read-number-requires
-read-number-requires c κs = let a = c .before .before .before .args in omega (arith, name-in (a .text .now) (a .at) (omega arith))
+read-number-requires c κs = let a = c .before .before .args in omega (arith, name-in (a .text .now) (a .at) (omega arith))
 
 enum-known-field : tie.Need-enum-known-field
 enum-known-field c = search needs
@@ -32,25 +29,24 @@ enum-told c = search needs
 
 returns-2 : tie.Need-returns-2
 returns-2 c =
-    let a = c .before .before .before .before .before .before .before .args in
-    let n = c .before .before .before .before .before .name-size in
+    let start = c .before .before .before .before .before .before in
+    let a = start .args in
     let r = c .before .before .before .read-number in
-    sym (heading-is (a .text .now) (a .at) (n .result) (n .ensures) (c .before .before .before .before .if1 .left)
-    ∙ ap (headed (n .result)) (sym (r .ensures) ∙ c .before .field .given .1))
+    sym (heading-is (a .text .now) (a .at) (a .size) (start .pre) (c .before .before .before .before .if1 .left)
+    ∙ ap (headed (a .size)) (sym (r .ensures) ∙ c .before .field .given .1))
 
 returns-3 : tie.Need-returns-3
 returns-3 c =
-    let a = c .before .before .before .before .before .before .args in
-    let n = c .before .before .before .before .name-size in
+    let start = c .before .before .before .before .before in
+    let a = start .args in
     let r = c .before .before .read-number in
-    sym (heading-is (a .text .now) (a .at) (n .result) (n .ensures) (c .before .before .before .if1 .left)
-    ∙ ap (headed (n .result)) (sym (r .ensures) ∙ c .enum-told .given .1))
+    sym (heading-is (a .text .now) (a .at) (a .size) (start .pre) (c .before .before .before .if1 .left)
+    ∙ ap (headed (a .size)) (sym (r .ensures) ∙ c .enum-told .given .1))
 
 pub read-heading-spec : {M : Type 1} → statement M
 read-heading-spec =
     tie.close
     (tie.spec
-    name-size-requires
     returns
     add-read-number
     add-read-number-2

@@ -5,41 +5,44 @@ use native.Mathlib.Nat.{sub-zero}
 use Prim.Native.Nat.{ℕ, _+_, _-_, _≤_, _<_}
 use mathlib.Core.Path.{_≡_, sym, ap, _∙_, subst}
 use mathlib.Core.List.{List, []}
-use lib.ListN.{length, getD, take}
+use lib.ListN.{length, take}
 use lib.Seq.{sets, length-take-le}
 use borrow.Author.Needs.{needs}
 use Rattle.book.specs.Contents.{headingAt, contentsLine}
 use Rattle.book.specs.Book.{mostCurves, refusedOf, contentsFrom, afterHeadings, entriesFrom}
-use Rattle.book.specs.Reading.{keyAt, lineBy, headingsFrom, entriesBy}
+use Rattle.book.specs.Reading.{keyAt, sizesAt, lineBy, headingsFrom, entriesBy}
+use Rattle.book.specs.declared.text.ReadName.{ReadName}
 use Rattle.book.specs.declared.lines.Line.{Line}
 use Rattle.book.specs.declared.BookReply.{BookReply}
+use Rattle.book.proofs.Names.{name-fits}
 use Rattle.book.proofs.LineLaws.{contents-next, contents-fault}
 use Rattle.book.proofs.Keys.{line-keyed, named-next}
-use Rattle.book.proofs.Kept.{Kept, kept-none, kept-turn, headings-in}
+use Rattle.book.proofs.Kept.{Kept, kept-none, kept-turn}
 use Rattle.book.proofs.Replies.{contents-end, contents-turn}
 use Rattle.book.proofs.Stores.{entries-by}
 use Rattle.book.proofs.reply.contents.Statement.{statement}
 use Rattle.book.proofs.reply.contents.Tie as tie
 
 -- the line by the keys that are kept is the line by the places
-line-is : (text : List ℕ) {first i : ℕ} {keys places : List ℕ} (at due : ℕ) {key : ℕ} {l : Line} → Kept text first i keys places at → key ≡ keyAt text at
+line-is : (text : List ℕ) {first i : ℕ} {keys places sizes : List ℕ} (at due : ℕ) {key : ℕ} {l : Line} → Kept text first i keys places sizes at → key ≡ keyAt text at
     → l ≡ lineBy (take i keys) key due (headingAt text at) → contentsLine text (take i places) at due ≡ l
-line-is text {first} {i} {keys} {places} at due k e r =
+line-is text {first} {i} {keys} {places} {sizes} at due k e r =
     sym (r
     ∙ ap (λ (x : ℕ). lineBy (take i keys) x due (headingAt text at)) e
     ∙ ap (λ (x : List ℕ). lineBy x (keyAt text at) due (headingAt text at)) (k .keyed)
     ∙ line-keyed text (take i places) at due (k .named))
 
 abbrev Inv-loop : tie.InvT-loop
-Inv-loop text n first draft keys₀ places₀ at₀ i₀ keys places at i =
+Inv-loop text n first draft keys₀ places₀ sizes₀ at₀ i₀ keys places sizes at i =
     (i ≤ n)
     × ((at ≤ length text)
     × ((length keys ≡ mostCurves)
     × ((length places ≡ mostCurves)
-    × (Kept text first i keys places at × (contentsFrom n text n [] first ≡ contentsFrom (n - i) text n (take i places) at)))))
+    × ((length sizes ≡ mostCurves)
+    × (Kept text first i keys places sizes at × (contentsFrom n text n [] first ≡ contentsFrom (n - i) text n (take i places) at))))))
 
 abbrev μ-loop : tie.MeasureT-loop
-μ-loop text n first draft keys₀ places₀ at₀ i₀ keys places at i = n - i
+μ-loop text n first draft keys₀ places₀ sizes₀ at₀ i₀ keys places sizes at i = n - i
 
 loop-holds : tie.Need-loop-holds Inv-loop μ-loop
 loop-holds c =
@@ -51,7 +54,7 @@ loop-holds c =
           search needs,
           (
             search needs,
-            (kept-none (a .text .now) (a .first) _ _, ap (λ (m : ℕ). contentsFrom m (a .text .now) (a .n) [] (a .first)) (sym (sub-zero (a .n)))),
+            (search needs, (kept-none (a .text .now) (a .first) _ _ _, ap (λ (m : ℕ). contentsFrom m (a .text .now) (a .n) [] (a .first)) (sym (sub-zero (a .n))))),
           ),
         ),
       ),
@@ -60,8 +63,8 @@ loop-holds c =
 cast-used : tie.Need-cast-used Inv-loop μ-loop
 cast-used c = search needs
 
-name-key-requires : tie.Need-name-key-requires Inv-loop μ-loop
-name-key-requires c κs = search needs
+read-name-requires : tie.Need-read-name-requires Inv-loop μ-loop
+read-name-requires c κs = search needs
 
 array-share-prefix-keys : tie.Need-array-share-prefix-keys Inv-loop μ-loop
 array-share-prefix-keys c = search needs
@@ -76,7 +79,7 @@ add-contents-line-2 : tie.Need-add-contents-line-2 Inv-loop μ-loop
 add-contents-line-2 c = search needs
 
 contents-line-requires : tie.Need-contents-line-requires Inv-loop μ-loop
-contents-line-requires c κs = search needs
+contents-line-requires c κs = ap (λ (x : ReadName). x .size) (c .before .read-name .ensures)
 
 enum-known-line : tie.Need-enum-known-line Inv-loop μ-loop
 enum-known-line c = search needs
@@ -96,6 +99,18 @@ mul-places c = search needs
 array-write-places : tie.Need-array-write-places Inv-loop μ-loop
 array-write-places c = search needs
 
+cast-sizes : tie.Need-cast-sizes Inv-loop μ-loop
+cast-sizes c =
+    let a = c .before .before .before .before .before .before .before .before .before .before .args in
+    let l = c .before .before .before .before .before .before .before .loop in
+    omega (arith, ap (λ (x : ReadName). x .size) (c .before .before .before .before .before .read-name .ensures), name-fits (a .text .now) (l .at) (l .inv .1 .0))
+
+mul-sizes : tie.Need-mul-sizes Inv-loop μ-loop
+mul-sizes c = search needs
+
+array-write-sizes : tie.Need-array-write-sizes Inv-loop μ-loop
+array-write-sizes c = search needs
+
 enum-known-line-2 : tie.Need-enum-known-line-2 Inv-loop μ-loop
 enum-known-line-2 c = search needs
 
@@ -110,14 +125,14 @@ returns c =
     let a = c .before .before .before .before .before .before .before .before .before .before .before .args in
     let l = c .before .before .before .before .before .before .before .before .loop in
     let some = c .before .before .before .before .before .before .before .loop-test .taken in
-    let k = c .before .before .before .before .before .before .name-key in
+    let k = c .before .before .before .before .before .before .read-name in
     let r = c .before .before .before .before .contents-line in
-    let e = line-is (a .text .now) (l .at) (a .n + l .i + 2) (l .inv .1 .1 .1 .1 .0) (k .ensures) (r .ensures) ∙ c .before .before .line2 .given .1 in
+    let e = line-is (a .text .now) (l .at) (a .n + l .i + 2) (l .inv .1 .1 .1 .1 .1 .0) (ap (λ (x : ReadName). x .key) (k .ensures)) (r .ensures) ∙ c .before .before .line2 .given .1 in
     let number = c .before .before .line2 .given .0 .0 in
     let told : c .refused .result ≡ refusedOf number (l .i + 2) = c .refused .ensures in
     let same : c .refused .result .number ≡ number = ap (λ (b : BookReply). b .number) told in
     let fault : 0 < number = contents-fault (a .text .now) (take (l .i) (l .places)) (l .at) (a .n + l .i + 2) e in (
-      told ∙ sym (l .inv .1 .1 .1 .1 .1 ∙ contents-turn (a .text .now) (a .n) (l .i) (l .places) (l .at) some (omega arith) e),
+      told ∙ sym (l .inv .1 .1 .1 .1 .1 .1 ∙ contents-turn (a .text .now) (a .n) (l .i) (l .places) (l .at) some (omega (arith, c .before .before .before .before .before .before .before .before .before .before .before .pre .0 .0)) e),
       λ z. absurd (omega arith),
     )
 
@@ -132,9 +147,9 @@ loop-again c =
     let a = c .before .before .before .before .before .before .before .before .before .before .args in
     let l = c .before .before .before .before .before .before .before .loop in
     let some = c .before .before .before .before .before .before .loop-test .taken in
-    let k = c .before .before .before .before .before .name-key in
+    let k = c .before .before .before .before .before .read-name in
     let r = c .before .before .before .contents-line in
-    let e = line-is (a .text .now) (l .at) (a .n + l .i + 2) (l .inv .1 .1 .1 .1 .0) (k .ensures) (r .ensures) ∙ c .before .line .given .1 in
+    let e = line-is (a .text .now) (l .at) (a .n + l .i + 2) (l .inv .1 .1 .1 .1 .1 .0) (ap (λ (x : ReadName). x .key) (k .ensures)) (r .ensures) ∙ c .before .line .given .1 in
     let next = named-next (a .text .now) (take (l .i) (l .places)) (l .at) (a .n + l .i + 2) e in (
       search needs,
       (
@@ -144,8 +159,12 @@ loop-again c =
           (
             search needs,
             (
-              kept-turn (a .text .now) (a .first) (l .keys) (l .places) (l .i) (l .at) (l .inv .1 .1 .1 .1 .0) (omega arith) (omega arith) (k .ensures) (next .0) (next .1),
-              l .inv .1 .1 .1 .1 .1 ∙ contents-turn (a .text .now) (a .n) (l .i) (l .places) (l .at) some (omega arith) e,
+              search needs,
+              (
+                kept-turn (a .text .now) (a .first) (l .keys) (l .places) (l .sizes) (l .i) (l .at) (l .inv .1 .1 .1 .1 .1 .0) (omega arith) (omega arith) (omega arith)
+                    (ap (λ (x : ReadName). x .key) (k .ensures)) (ap (λ (x : ReadName). x .size) (k .ensures)) (next .0) (next .1),
+                l .inv .1 .1 .1 .1 .1 .1 ∙ contents-turn (a .text .now) (a .n) (l .i) (l .places) (l .at) some (omega arith) e,
+              ),
             ),
           ),
         ),
@@ -160,34 +179,40 @@ all-placed : (c : tie.After-loop Inv-loop μ-loop)
     → let a = c .before .before .before .before .args in take (a .n) (c .before .loop .places) ≡ headingsFrom (a .n) (a .text .now) (a .first)
 all-placed c =
     let a = c .before .before .before .before .args in
-    subst (λ (k : ℕ). take k (c .before .loop .places) ≡ headingsFrom k (a .text .now) (a .first)) (all c) (c .before .loop .inv .1 .1 .1 .1 .0 .placed)
+    subst (λ (k : ℕ). take k (c .before .loop .places) ≡ headingsFrom k (a .text .now) (a .first)) (all c) (c .before .loop .inv .1 .1 .1 .1 .1 .0 .placed)
+
+all-sized : (c : tie.After-loop Inv-loop μ-loop)
+    → let a = c .before .before .before .before .args in take (a .n) (c .before .loop .sizes) ≡ sizesAt (a .text .now) (take (a .n) (c .before .loop .places))
+all-sized c =
+    let a = c .before .before .before .before .args in
+    subst (λ (k : ℕ). take k (c .before .loop .sizes) ≡ sizesAt (a .text .now) (take k (c .before .loop .places))) (all c)
+    (c .before .loop .inv .1 .1 .1 .1 .1 .0 .sized)
 
 all-past : (c : tie.After-loop Inv-loop μ-loop)
     → let a = c .before .before .before .before .args in c .before .loop .at ≡ afterHeadings (a .n) (a .text .now) (a .first)
 all-past c =
     let a = c .before .before .before .before .args in
-    subst (λ (k : ℕ). c .before .loop .at ≡ afterHeadings k (a .text .now) (a .first)) (all c) (c .before .loop .inv .1 .1 .1 .1 .0 .here)
+    subst (λ (k : ℕ). c .before .loop .at ≡ afterHeadings k (a .text .now) (a .first)) (all c) (c .before .loop .inv .1 .1 .1 .1 .1 .0 .here)
 
 array-share-prefix-places : tie.Need-array-share-prefix-places Inv-loop μ-loop
 array-share-prefix-places c = search needs
 
 slice-aggregate-bodies : tie.Need-slice-aggregate-bodies Inv-loop μ-loop
-slice-aggregate-bodies c =
-    let l = c .before .before .loop in sym (length-take-le (c .before .before .before .before .before .args .n) (l .places) (omega arith))
+slice-aggregate-bodies c = let l = c .before .before .loop in sym (length-take-le (c .before .before .before .before .before .args .n) (l .places) (omega arith))
+
+array-share-prefix-sizes : tie.Need-array-share-prefix-sizes Inv-loop μ-loop
+array-share-prefix-sizes c = search needs
+
+slice-aggregate-bodies-2 : tie.Need-slice-aggregate-bodies-2 Inv-loop μ-loop
+slice-aggregate-bodies-2 c =
+    let l = c .before .before .before .loop in sym (length-take-le (c .before .before .before .before .before .before .args .n) (l .sizes) (omega arith))
 
 bodies-requires : tie.Need-bodies-requires Inv-loop μ-loop
 bodies-requires c κs =
-    let a = c .before .before .before .before .before .before .args in
-    let l = c .before .before .before .loop in
-    let placed = all-placed (c .before .before) in (
+    let a = c .before .before .before .before .before .before .before .args in
+    let l = c .before .before .before .before .loop in (
       search needs,
-      (
-        (
-          length-take-le (a .n) (l .places) (omega arith),
-          λ i. subst (λ (r : List ℕ). getD r i 0 ≤ length (a .text .now)) (sym placed) (headings-in (a .text .now) (a .n) (a .first) (search needs) i),
-        ),
-        search needs,
-      ),
+      ((length-take-le (a .n) (l .places) (omega arith), all-sized (c .before .before .before)), search needs),
     )
 
 same-length : tie.Need-same-length Inv-loop μ-loop
@@ -195,19 +220,19 @@ same-length c = search needs
 
 returns-2 : tie.Need-returns-2 Inv-loop μ-loop
 returns-2 c =
-    let a = c .before .before .before .before .before .before .before .before .before .args in
-    let l = c .before .before .before .before .before .before .loop in
-    let none = c .before .before .before .before .before .loop-test .left in
+    let a = c .before .before .before .before .before .before .before .before .before .before .args in
+    let l = c .before .before .before .before .before .before .before .loop in
+    let none = c .before .before .before .before .before .before .loop-test .left in
     let b = c .before .before .bodies in
     let s = a .text .now in
     let d = a .draft .now in (
-      b .ensures .0 ∙ sym (l .inv .1 .1 .1 .1 .1 ∙ contents-end s (a .n) (l .i) (l .places) (l .at) none),
+      b .ensures .0 ∙ sym (l .inv .1 .1 .1 .1 .1 .1 ∙ contents-end s (a .n) (l .i) (l .places) (l .at) none),
       λ z. (
         b .ensures .1 z .0,
         b .ensures .1 z .1
-            ∙ ap (λ (r : List ℕ). sets d 0 (entriesBy s r (l .at))) (all-placed (c .before .before .before .before .before))
+            ∙ ap (λ (r : List ℕ). sets d 0 (entriesBy s r (l .at))) (all-placed (c .before .before .before .before .before .before))
             ∙ ap (sets d 0) (entries-by (a .n) s (a .first) (l .at))
-            ∙ ap (λ (p : ℕ). sets d 0 (entriesFrom (a .n) s (a .first) p)) (all-past (c .before .before .before .before .before)),
+            ∙ ap (λ (p : ℕ). sets d 0 (entriesFrom (a .n) s (a .first) p)) (all-past (c .before .before .before .before .before .before)),
       ),
     )
 
@@ -219,7 +244,7 @@ contents-spec =
     μ-loop
     loop-holds
     cast-used
-    name-key-requires
+    read-name-requires
     array-share-prefix-keys
     slice-aggregate-contents-line
     add-contents-line
@@ -231,6 +256,9 @@ contents-spec =
     cast-places
     mul-places
     array-write-places
+    cast-sizes
+    mul-sizes
+    array-write-sizes
     enum-known-line-2
     add-refused
     refused-requires
@@ -240,6 +268,8 @@ contents-spec =
     loop-again
     array-share-prefix-places
     slice-aggregate-bodies
+    array-share-prefix-sizes
+    slice-aggregate-bodies-2
     bodies-requires
     same-length
     returns-2)

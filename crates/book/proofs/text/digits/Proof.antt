@@ -5,6 +5,7 @@ use Prim.Native.Nat.{ℕ, _+_, _-_, _*_, _^_, _≤_, _<_}
 use mathlib.Core.Path.{_≡_, refl, sym, ap, _∙_}
 use lib.ListN.{length}
 use lib.Dec.{lit<}
+use borrow.Author.Tests.{ltb-true, ltb-false, not-true, not-false}
 use borrow.Author.Needs.{needs}
 use Rattle.book.specs.Number.{digitAt, digitsAt}
 use Rattle.book.proofs.Places.{digit-inside, digits-stop, digits-none, digits-turn, base-more, power-wide}
@@ -24,8 +25,8 @@ abbrev μ-loop : tie.MeasureT-loop
 loop-holds : tie.Need-loop-holds Inv-loop μ-loop
 loop-holds c = (search needs, (search needs, (search needs, refl)))
 
-digit-at-requires : tie.Need-digit-at-requires Inv-loop μ-loop
-digit-at-requires c κs = search needs
+is-digit-at-requires : tie.Need-is-digit-at-requires Inv-loop μ-loop
+is-digit-at-requires c κs = search needs
 
 ended-requires : tie.Need-ended-requires Inv-loop μ-loop
 ended-requires c κs = search needs
@@ -35,13 +36,23 @@ returns c =
     let a = c .before .before .before .before .before .before .args in
     let l = c .before .before .before .before .loop in
     c .ended .ensures
-    ∙ sym (l .inv .1 .1 .1 ∙ digits-stop (a .text .now) (l .at) (l .value) (a .end) (6 - l .n) (omega arith))
+    ∙ sym (l .inv .1 .1 .1
+    ∙ digits-stop (a .text .now) (l .at) (l .value) (a .end) (6 - l .n)
+    (ltb-false _ 10 (sym (c .before .before .is-digit-at .ensures) ∙ not-true _ (c .before .if1 .taken))))
+
+digit-at-requires : tie.Need-digit-at-requires Inv-loop μ-loop
+digit-at-requires c κs = search needs
+
+-- a digit stands where the loop goes on
+digit : (c : tie.After-digit-at Inv-loop μ-loop)
+    → digitAt (c .before .before .before .before .before .before .args .text .now) (c .before .before .before .before .loop .at) < 10
+digit c = ltb-true _ 10 (sym (c .before .before .is-digit-at .ensures) ∙ not-false _ (c .before .if1 .left))
 
 mul-value : tie.Need-mul-value Inv-loop μ-loop
-mul-value c = let l = c .before .before .before .loop in omega (arith, power-wide (l .n + 1) 7 (l .value) (lit< tt) (omega arith) (l .inv .1 .1 .0))
+mul-value c = let l = c .before .before .before .before .loop in omega (arith, power-wide (l .n + 1) 7 (l .value) (lit< tt) (omega arith) (l .inv .1 .1 .0))
 
 add-value : tie.Need-add-value Inv-loop μ-loop
-add-value c = let l = c .before .before .before .loop in omega (arith, power-wide (l .n + 1) 7 (l .value) (lit< tt) (omega arith) (l .inv .1 .1 .0))
+add-value c = let l = c .before .before .before .before .loop in omega (arith, digit c, c .digit-at .ensures, power-wide (l .n + 1) 7 (l .value) (lit< tt) (omega arith) (l .inv .1 .1 .0))
 
 add-at : tie.Need-add-at Inv-loop μ-loop
 add-at c = search needs
@@ -54,18 +65,18 @@ loop-less c = omega arith
 
 loop-again : tie.Need-loop-again Inv-loop μ-loop
 loop-again c =
-    let a = c .before .before .before .before .before .args in
+    let a = c .before .before .before .before .before .before .args in
     let s = a .text .now in
-    let l = c .before .before .before .loop in
-    let d : digitAt s (l .at) < 10 = omega arith in (
+    let l = c .before .before .before .before .loop in
+    let d = digit c in (
       search needs,
       (
         omega (arith, digit-inside s (l .at) d),
         (
-          base-more (l .n + 1) (l .value) _ (l .inv .1 .1 .0) (omega arith),
+          base-more (l .n + 1) (l .value) _ (l .inv .1 .1 .0) (omega (arith, d, c .digit-at .ensures)),
           l .inv .1 .1 .1
-              ∙ digits-turn s (l .at) (l .value) (a .end) (l .n) (c .before .before .loop-test .taken) d
-              ∙ ap (λ (x : ℕ). digitsAt (6 - (l .n + 1)) s (l .at + 1) (l .value * 10 + x) (a .end)) (sym (c .before .digit-at .ensures)),
+              ∙ digits-turn s (l .at) (l .value) (a .end) (l .n) (c .before .before .before .loop-test .taken) d
+              ∙ ap (λ (x : ℕ). digitsAt (6 - (l .n + 1)) s (l .at + 1) (l .value * 10 + x) (a .end)) (sym (c .digit-at .ensures)),
         ),
       ),
     )
@@ -90,9 +101,10 @@ digits-spec =
     Inv-loop
     μ-loop
     loop-holds
-    digit-at-requires
+    is-digit-at-requires
     ended-requires
     returns
+    digit-at-requires
     mul-value
     add-value
     add-at

@@ -65,5 +65,9 @@ int main(int argc, char **argv)
     }
     fclose(book);
     print_book(length);
+    if (fflush(stdout) != 0 || ferror(stdout)) {
+        fprintf(stderr, "box: the tables cannot be written\n");
+        return 2;
+    }
     return 0;
 }

@@ -1,10 +1,10 @@
 /*
  * Pippinterm: the table of heights of a curve card, and the book of cards.
  *
- * Link target/staticlib/libcapi.a, which `rt staticlib capi` proves and builds.
- * It needs memcpy and memset of the C library, less than 4 KB of stack, and no
- * start-up; it keeps nothing between two calls, so that calls from several
- * threads do not meet.
+ * Link target/staticlib/libcapi.a, which `rt staticlib capi` proves and builds
+ * for x86-64. It needs memcpy and memset, which every C compiler expects, less
+ * than 4 KB of stack, and no start-up. It keeps nothing between two calls, so
+ * that calls from several threads meet only in what they are lent.
  *
  * No call asks for a test beforehand: every card, every text and every length
  * has its reply. Only the C side can see to this much:
@@ -24,71 +24,68 @@ extern "C" {
 #endif
 
 /* The numbers of a card, in their order. */
-enum {
-    PIPPINTERM_CARD_PROFILE = 0,  /* 1 to 5: II, III, IV, V two lanes, V one lane */
-    PIPPINTERM_CARD_TERRAIN = 1,  /* 1 level, 2 mountain */
-    PIPPINTERM_CARD_RADIUS = 2,   /* in metres */
-    PIPPINTERM_CARD_CLOTHOID = 3, /* length in mm */
-    PIPPINTERM_CARD_SLOPE = 4,    /* full slope in per mille */
-    PIPPINTERM_CARD_WIDENING = 5, /* full widening in mm */
-    PIPPINTERM_CARD_STEP = 6,     /* between rows, in mm */
-    PIPPINTERM_CARD_UNIT = 7,     /* in mm: 1 or 10 */
-    PIPPINTERM_CARD_NUMBERS = 8
-};
+#define PIPPINTERM_CARD_PROFILE 0     /* 1 to 5: II, III, IV, V two lanes, V one lane */
+#define PIPPINTERM_CARD_TERRAIN 1     /* 1 level, 2 mountain */
+#define PIPPINTERM_CARD_RADIUS 2      /* in metres */
+#define PIPPINTERM_CARD_CLOTHOID 3    /* length in mm */
+#define PIPPINTERM_CARD_SLOPE 4       /* full slope in per mille */
+#define PIPPINTERM_CARD_WIDENING 5    /* full widening in mm */
+#define PIPPINTERM_CARD_STEP 6        /* between rows, in mm */
+#define PIPPINTERM_CARD_UNIT 7        /* in mm: 1 or 10 */
+#define PIPPINTERM_CARD_NUMBERS 8
 
 /* The numbers of a row, in their order: the station in mm, the others in
-   counts of the card's unit. Heights count from the inner brow at station 0. */
-enum {
-    PIPPINTERM_ROW_STATION = 0,
-    PIPPINTERM_ROW_WIDENING = 1,
-    PIPPINTERM_ROW_INNER_BROW = 2,
-    PIPPINTERM_ROW_INNER_EDGE = 3,
-    PIPPINTERM_ROW_AXIS = 4,
-    PIPPINTERM_ROW_OUTER_EDGE = 5,
-    PIPPINTERM_ROW_OUTER_BROW = 6,
-    PIPPINTERM_ROW_NUMBERS = 7
-};
+   counts of the card's unit, each rounded once from its exact fraction to the
+   nearest, halfway to the lower, also below nought. Heights count from the
+   inner brow at station 0. */
+#define PIPPINTERM_ROW_STATION 0
+#define PIPPINTERM_ROW_WIDENING 1
+#define PIPPINTERM_ROW_INNER_BROW 2
+#define PIPPINTERM_ROW_INNER_EDGE 3
+#define PIPPINTERM_ROW_AXIS 4
+#define PIPPINTERM_ROW_OUTER_EDGE 5
+#define PIPPINTERM_ROW_OUTER_BROW 6
+#define PIPPINTERM_ROW_NUMBERS 7
 
 /* The numbers of a curve in a card list, in their order. */
-enum {
-    PIPPINTERM_CURVE_NAME_PLACE = 0, /* byte place of the name in the text, from 0 */
-    PIPPINTERM_CURVE_NAME_SIZE = 1,  /* how many bytes the name has, 1 to 8 */
-    PIPPINTERM_CURVE_CARD = 2,       /* the eight numbers of its card begin here */
-    PIPPINTERM_CURVE_NUMBERS = 10
-};
+#define PIPPINTERM_CURVE_NAME_PLACE 0 /* byte place of the name in the text, from 0 */
+#define PIPPINTERM_CURVE_NAME_SIZE 1  /* how many bytes the name has, 1 to 8 */
+#define PIPPINTERM_CURVE_CARD 2       /* the eight numbers of its card begin here */
+#define PIPPINTERM_CURVE_NUMBERS 10
 
 /* Sizes. */
-enum {
-    PIPPINTERM_MOST_ROWS = 301,      /* no card has more rows */
-    PIPPINTERM_ENOUGH_TABLE = 2107,  /* numbers of a table that is long enough for every card */
-    PIPPINTERM_MOST_CURVES = 64,     /* no book has more curves */
-    PIPPINTERM_MOST_BYTES = 8192,    /* a text above this is refused */
-    PIPPINTERM_LEAST_LIST = 640      /* a list below this is refused; enough for every book */
-};
+#define PIPPINTERM_MOST_ROWS 301      /* no card has more rows */
+#define PIPPINTERM_ENOUGH_TABLE 2107  /* numbers of a table that is long enough for every card */
+#define PIPPINTERM_MOST_CURVES 64     /* no book has more curves */
+#define PIPPINTERM_MOST_BYTES 8192    /* a text above this is refused */
+#define PIPPINTERM_LEAST_LIST 640     /* a list below this is refused; enough for every book */
 
-/* What a turned-away card or book says. */
-enum {
-    PIPPINTERM_ACCEPTED = 0,
-    PIPPINTERM_PROFILE = 1,         /* profile: not 1 to 5 */
-    PIPPINTERM_TERRAIN = 2,         /* terrain: not 1 or 2 */
-    PIPPINTERM_RADIUS = 3,          /* radius: below the profile's least, or above 2000 */
-    PIPPINTERM_CLOTHOID = 4,        /* clothoid: shorter than the least for the radius, or above 300000 */
-    PIPPINTERM_FULL_SLOPE = 5,      /* full slope: below the crown slope, or above 60 */
-    PIPPINTERM_WIDENING = 6,        /* widening: above 3500, or above 0 with a radius above 1000 */
-    PIPPINTERM_NARROW_SHOULDER = 7, /* narrow shoulder: the widening leaves less than the least shoulder */
-    PIPPINTERM_ADDED_SLOPE = 8,     /* added slope: the outer edge would climb by more than it allows */
-    PIPPINTERM_STEP = 9,            /* step: below 1000 or above 20000 */
-    PIPPINTERM_UNIT = 10,           /* unit: not 1 or 10 */
-    PIPPINTERM_SHORT_TABLE = 11,    /* short table: below 7 numbers a row */
-    PIPPINTERM_BOOK_SIZE = 21,      /* book size: 0 bytes, or above 8192; line 0 */
-    PIPPINTERM_COUNT_LINE = 22,     /* count line: malformed, or not 1 to 64 */
-    PIPPINTERM_CONTENTS_LINE = 23,  /* contents line: malformed */
-    PIPPINTERM_WRONG_LINE = 24,     /* wrong line: not the number due */
-    PIPPINTERM_TWIN_NAME = 25,      /* twin name: stands in an earlier contents line */
-    PIPPINTERM_BODY = 26,           /* body: malformed */
-    PIPPINTERM_TAIL = 27,           /* tail: bytes after the last body */
-    PIPPINTERM_SHORT_LIST = 28      /* short list: below 640 numbers; line 0 */
-};
+/* What a turned-away card or book says: the trade's word, and the condition.
+   A line is malformed where it is missing, not ended by byte 10, or anything
+   else than: a number (the count line); a name, one blank and a number (a
+   contents line); eight numbers with one blank between (a body). A number is 1
+   to 7 decimal digits, without a leading zero but in 0 itself; a name is 1 to 8
+   capitals or digits. */
+#define PIPPINTERM_ACCEPTED 0
+#define PIPPINTERM_PROFILE 1          /* profile: not 1 to 5 */
+#define PIPPINTERM_TERRAIN 2          /* terrain: not 1 or 2 */
+#define PIPPINTERM_RADIUS 3           /* radius: below the profile's least, or above 2000 */
+#define PIPPINTERM_CLOTHOID 4         /* clothoid: shorter than the least for the radius, or above 300000 */
+#define PIPPINTERM_FULL_SLOPE 5       /* full slope: below the crown slope, or above 60 */
+#define PIPPINTERM_WIDENING 6         /* widening: above 3500, or above 0 with a radius above 1000 */
+#define PIPPINTERM_NARROW_SHOULDER 7  /* narrow shoulder: the widening leaves less than the least shoulder */
+#define PIPPINTERM_ADDED_SLOPE 8      /* added slope: the outer edge would climb by more than it allows */
+#define PIPPINTERM_STEP 9             /* step: below 1000 or above 20000 */
+#define PIPPINTERM_UNIT 10            /* unit: not 1 or 10 */
+#define PIPPINTERM_SHORT_TABLE 11     /* short table: below 7 numbers a row */
+#define PIPPINTERM_BOOK_SIZE 21       /* book size: 0 bytes, or above 8192; line 0 */
+#define PIPPINTERM_COUNT_LINE 22      /* count line: malformed, or not 1 to 64 */
+#define PIPPINTERM_CONTENTS_LINE 23   /* contents line: malformed */
+#define PIPPINTERM_WRONG_LINE 24      /* wrong line: not the number due */
+#define PIPPINTERM_TWIN_NAME 25       /* twin name: stands in an earlier contents line */
+#define PIPPINTERM_BODY 26            /* body: malformed */
+#define PIPPINTERM_TAIL 27            /* tail: bytes after the last body */
+#define PIPPINTERM_SHORT_LIST 28      /* short list: below 640 numbers; line 0 */
 
 /*
  * Checks a card.
@@ -116,9 +113,11 @@ uint32_t pippinterm_fill_table(const uint32_t card[PIPPINTERM_CARD_NUMBERS],
  * Gives 0 for an accepted book: *count is then the count of curves, 1 to 64,
  * *line is 0, and the curves stand in the list from its start in the order of
  * the book, ten numbers each. The list's numbers after them are as they were.
- * Else gives the number of the refusal: 28, then 21, then the first line at
- * fault, 22 to 27. *count is then 0, *line is the number of that line, from 1,
- * and 0 with 28 and 21; the list is as it was.
+ * Else gives the number of the refusal: 28, then 21, then that of the first
+ * line at fault, 22 to 27, in a contents line 23 before 24 before 25. *count
+ * is then 0, *line is the number of that line, from 1, and 0 with 28 and 21;
+ * the list is as it was. With n curves the i-th contents line names line
+ * n + 1 + i, and 27 names line 2 x n + 2.
  * A curve whose card would be refused does not refuse its book.
  * text_length is in bytes, list_length in numbers; each may be any, 0 too.
  */

@@ -58,10 +58,9 @@ const OTHERS: [(&str, u32); 27] = [
 
 /// The word and the number of a line that has a constant.
 fn constant(line: &str) -> Option<(String, u32)> {
-    let (name, rest) = line.trim().strip_prefix("PIPPINTERM_")?.split_once(" = ")?;
-    let digits: String = rest.chars().take_while(char::is_ascii_digit).collect();
-    let word = name.to_lowercase().replace('_', " ");
-    Some((word, digits.parse().ok()?))
+    let mut words = line.strip_prefix("#define PIPPINTERM_")?.split_whitespace();
+    let word = words.next()?.to_lowercase().replace('_', " ");
+    Some((word, words.next()?.parse().ok()?))
 }
 
 #[test]

@@ -61,17 +61,13 @@ impl<'a> Reader<'a> {
 /// Ten numbers a curve: place and length of the name, then the card.
 type Curves = [[u32; 10]; MOST_CURVES];
 
-/// The count of curves, or the number of the refusal and its line.
-fn read(text: &[u8], curves: &mut Curves) -> Result<usize, (u32, u32)> {
-    let mut reader = Reader {
-        rest: text,
-        place: 0,
-    };
-    let count = match reader.number(LINE_END) {
-        Some(count @ 1..=64) => count as usize,
-        _ => return Err((22, 1)),
-    };
-    let mut names: [&[u8]; MOST_CURVES] = [&[]; MOST_CURVES];
+/// The number of a refusal, and its line.
+type Fault = (u32, u32);
+
+/// The contents lines: places and lengths of the names.
+fn contents(reader: &mut Reader, count: usize, curves: &mut Curves) -> Result<(), Fault> {
+    // Names are compared as eight bytes, with noughts after the shorter ones.
+    let mut names = [[0; 8]; MOST_CURVES];
     for i in 0..count {
         let line = i as u32 + 2;
         let place = reader.place;
@@ -80,13 +76,29 @@ fn read(text: &[u8], curves: &mut Curves) -> Result<usize, (u32, u32)> {
         if due as usize != count + 2 + i {
             return Err((24, line));
         }
-        if names[..i].contains(&name) {
+        let mut padded = [0; 8];
+        padded[..name.len()].copy_from_slice(name);
+        if names[..i].contains(&padded) {
             return Err((25, line));
         }
-        names[i] = name;
+        names[i] = padded;
         curves[i][0] = place as u32;
         curves[i][1] = name.len() as u32;
     }
+    Ok(())
+}
+
+/// The count of curves, or the fault.
+fn read(text: &[u8], curves: &mut Curves) -> Result<usize, Fault> {
+    let mut reader = Reader {
+        rest: text,
+        place: 0,
+    };
+    let count = match reader.number(LINE_END) {
+        Some(count @ 1..=64) => count as usize,
+        _ => return Err((22, 1)),
+    };
+    contents(&mut reader, count, curves)?;
     for (i, curve) in curves[..count].iter_mut().enumerate() {
         let line = (count + 2 + i) as u32;
         reader.body(&mut curve[2..]).ok_or((26, line))?;

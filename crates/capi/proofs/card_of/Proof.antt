@@ -1,6 +1,7 @@
 -- `capi::card_of` meets its contract: each number stands at its place.
 -- Assumes nothing.
 use borrow.Author.Needs.{needs}
+use mathlib.Core.Path.{refl}
 use Rattle.book.specs.Cards.{cardFrom}
 use Rattle.capi.proofs.card_of.Statement.{statement}
 use Rattle.capi.proofs.card_of.Tie as tie
@@ -31,7 +32,7 @@ element-copy-out-t25 c = search needs
 
 returns : tie.Need-returns
 unfolding cardFrom
-returns c = search needs
+returns c = refl
 
 pub card-of-spec : {M : Type 1} → statement M
 card-of-spec =

@@ -3,8 +3,9 @@
  *
  * Link target/staticlib/libcapi.a, which `rt staticlib capi` proves and builds
  * for x86-64. It needs memcpy and memset, which every C compiler expects, less
- * than 4 KB of stack, and no start-up. It keeps nothing between two calls, so
- * that calls from several threads meet only in what they are lent.
+ * than 4 KB of stack besides what these two take, and no start-up. It keeps
+ * nothing between two calls, so that calls from several threads meet only in
+ * what they are lent.
  *
  * No call asks for a test beforehand: every card, every text and every length
  * has its reply. Only the C side can see to this much:

@@ -2,6 +2,8 @@
 
 #[cfg(test)]
 mod header;
+#[cfg(test)]
+mod stack;
 
 use std::ptr;
 

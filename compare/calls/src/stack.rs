@@ -1,0 +1,76 @@
+//! How much stack the calls take: less than the header says.
+
+use crate::{check_card, fill_table, read_book};
+use std::arch::asm;
+
+/// "Less than 4 KB of stack."
+const SAID: usize = 4096;
+/// What the draft of a book's list takes by itself; a measure below it would measure nothing.
+const DRAFT: usize = 640 * 4;
+
+const PAINT: u8 = 0xa5;
+const SIZE: usize = 64 * 1024;
+
+/// A place to stand on while the calls run, aligned as the stack is.
+#[repr(C, align(16))]
+struct Stack([u8; SIZE]);
+
+/// Does the work on a painted stack; gives how many bytes of it were touched.
+fn taken<W: FnMut()>(mut work: W) -> usize {
+    extern "C" fn do_work<W: FnMut()>(work: &mut W) {
+        work();
+    }
+    let mut stack = Box::new(Stack([PAINT; SIZE]));
+    let top = stack.0.as_mut_ptr_range().end;
+    // SAFETY: the painted stack is larger than the work needs, and is left where it was entered; r12 is kept by what is called.
+    unsafe {
+        asm!(
+            "xchg rsp, r12",
+            "call {do_work}",
+            "mov rsp, r12",
+            do_work = in(reg) do_work::<W> as extern "C" fn(&mut W),
+            inout("r12") top => _,
+            inout("rdi") &mut work => _,
+            clobber_abi("C"),
+        );
+    }
+    SIZE - stack.0.iter().take_while(|&&byte| byte == PAINT).count()
+}
+
+/// A book of 64 curves with names that are no twins: all of the reader is gone through.
+fn longest_book() -> Vec<u8> {
+    let contents = (0..64).map(|i| format!("CURVE{} {}\n", 100 + i, 66 + i));
+    let bodies =
+        (0..64).map(|i| format!("{}\n", [1_234_567 + i; 8].map(|n| n.to_string()).join(" ")));
+    let text: String = ["64\n".to_string()]
+        .into_iter()
+        .chain(contents)
+        .chain(bodies)
+        .collect();
+    text.into_bytes()
+}
+
+#[test]
+fn reading_a_book() {
+    let (text, mut list) = (longest_book(), [0; 640]);
+    let (mut number, mut count, mut line) = (1, 0, 0);
+    let taken = taken(|| number = read_book(&text, &mut list, &mut count, &mut line));
+    assert_eq!((number, count, line), (0, 64, 0));
+    assert!((DRAFT..SAID).contains(&taken), "{taken} bytes");
+}
+
+#[test]
+fn a_cards_table() {
+    // Even, and in two stages.
+    for card in [
+        [5, 1, 30, 30_000, 60, 600, 20_000, 1],
+        [3, 1, 700, 120_000, 40, 400, 20_000, 10],
+    ] {
+        let (mut table, mut number, mut count) = ([0; 49], 1, 0);
+        let taken = taken(|| {
+            number = check_card(&card) + fill_table(&card, &mut table, &mut count);
+        });
+        assert_eq!((number, table[7 * count as usize - 7]), (0, card[3] as i32));
+        assert!((1..SAID).contains(&taken), "{taken} bytes");
+    }
+}

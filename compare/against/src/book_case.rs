@@ -15,6 +15,17 @@ const LIST_LENGTHS: [usize; 20] = [
     1000,
 ];
 
+/// One list in so many has more than 65,536 numbers.
+const LONG_ONE_IN: usize = 1000;
+
+fn list_length(seeded: &mut Seeded) -> usize {
+    if seeded.one_in(LONG_ONE_IN) {
+        65_536 + seeded.below(640)
+    } else {
+        seeded.pick(&LIST_LENGTHS)
+    }
+}
+
 /// All that the call answers and all that it could touch.
 #[derive(Clone, PartialEq)]
 pub struct BookAnswer {
@@ -37,7 +48,7 @@ pub fn run(book: &Book, seeded: &mut Seeded) -> BookCase {
         count: Lent::filled(1, seeded),
         line: Lent::filled(1, seeded),
         text: Lent::holding(&book.text, &book.beyond, seeded),
-        list: Lent::filled(seeded.pick(&LIST_LENGTHS), seeded),
+        list: Lent::filled(list_length(seeded), seeded),
     };
     let mut came = before.clone();
     let mut due = before;

@@ -8,6 +8,8 @@ const ALPHABET: &[u8] = b"0123456789  \n\nABZ";
 /// Bytes just outside what a name or a number may hold.
 const STRANGE: &[u8] = b"/:@[`az+-.,_\t\r\x00\x7f\x80\xff\n 0";
 const SIZES: [usize; 5] = [0, 8191, 8192, 8193, 20_000];
+/// Of the texts of set sizes, one in so many has more than 65,536 bytes.
+const LONG_ONE_IN: usize = 100;
 
 /// The text to be lent, and what lies right behind it.
 pub struct Book {
@@ -21,7 +23,7 @@ type Lines = Vec<Vec<u8>>;
 /// Makes a seeded book.
 type Make = fn(&mut Seeded) -> Book;
 
-pub const KINDS: [(&str, Make); 19] = [
+pub const KINDS: [(&str, Make); 20] = [
     ("valid", |s| book(lines(s))),
     ("byte changed", |s| bytes_faulted(s, change_byte)),
     ("byte added", |s| bytes_faulted(s, add_byte)),
@@ -39,6 +41,7 @@ pub const KINDS: [(&str, Make); 19] = [
     ("bytes after", bytes_after),
     ("two faults", two_faults),
     ("set size", set_size),
+    ("longest", longest),
     ("random bytes", random_bytes),
     ("random signs", random_signs),
 ];
@@ -131,6 +134,10 @@ fn body(seeded: &mut Seeded) -> Vec<u8> {
         2 => cards::damaged(seeded).map(|number| number % 10_000_000),
         _ => std::array::from_fn(|_| digits(seeded)),
     };
+    body_line(&card)
+}
+
+fn body_line(card: &cards::Numbers) -> Vec<u8> {
     card.map(|number| number.to_string()).join(" ").into_bytes()
 }
 
@@ -346,7 +353,9 @@ fn change_count(lines: &mut Lines, seeded: &mut Seeded) {
         5 => format!("0{count}").into_bytes(),
         6 => (count + 1).to_string().into_bytes(),
         7 => (count - 1).to_string().into_bytes(),
-        8 => (count + 256).to_string().into_bytes(),
+        8 => (count + seeded.pick(&[256, 65_536]))
+            .to_string()
+            .into_bytes(),
         9 => ((1_u64 << 32) + count as u64).to_string().into_bytes(),
         10 => digits(seeded).to_string().into_bytes(),
         _ => seeded.between(60, 70).to_string().into_bytes(),
@@ -389,8 +398,11 @@ fn two_faults(seeded: &mut Seeded) -> Book {
     book
 }
 
-/// A text of one of the set sizes, half of them with a valid book at the start.
+/// A text of one of the set sizes, half of them with a valid book at the start; rarely one above 65,536 bytes.
 fn set_size(seeded: &mut Seeded) -> Book {
+    if seeded.one_in(LONG_ONE_IN) {
+        return above_16_bits(seeded);
+    }
     let size = seeded.pick(&SIZES);
     let mut text = Vec::new();
     if seeded.one_in(2) {
@@ -402,6 +414,35 @@ fn set_size(seeded: &mut Seeded) -> Book {
     }
     let beyond = text_of(&lines(seeded));
     Book { text, beyond }
+}
+
+/// A valid book and 65,536 bytes more: with 16 bits of its length it would be accepted.
+fn above_16_bits(seeded: &mut Seeded) -> Book {
+    let mut book = book(lines(seeded));
+    book.text.resize(book.text.len() + 65_536, b' ');
+    book
+}
+
+/// A book of 4897 bytes, as long as one can be: 64 names of eight signs, and numbers of seven digits. Half of them with one byte at fault.
+fn longest(seeded: &mut Seeded) -> Book {
+    let names: Lines = (10..74).map(|i| long_name(i, seeded)).collect();
+    let mut lines = lines_with(&names, seeded);
+    for line in &mut lines[65..] {
+        let card: cards::Numbers = std::array::from_fn(|_| seeded.between(1_000_000, 9_999_999));
+        *line = body_line(&card);
+    }
+    let mut book = book(lines);
+    if seeded.one_in(2) {
+        seeded.pick(&[change_byte, add_byte, drop_byte])(&mut book.text, seeded);
+    }
+    book
+}
+
+/// A name of eight signs that ends in the two digits of its number.
+fn long_name(number: u32, seeded: &mut Seeded) -> Vec<u8> {
+    let mut name: Vec<u8> = (0..6).map(|_| seeded.pick(CAPITALS_AND_DIGITS)).collect();
+    name.extend(number.to_string().bytes());
+    name
 }
 
 fn random_bytes(seeded: &mut Seeded) -> Book {

@@ -10,7 +10,7 @@ const ROW: usize = 7;
 const LONGEST: usize = 2107;
 
 /// How long the lent table is, measured against the rows due.
-pub const CLASSES: [&str; 7] = [
+pub const CLASSES: [&str; 8] = [
     "0",
     "1 to 6",
     "one short",
@@ -18,10 +18,15 @@ pub const CLASSES: [&str; 7] = [
     "one more",
     "many more",
     "2107",
+    "above 65536",
 ];
 
 /// Shares of the classes; the longer ones more often, so that rows come.
 const SHARES: [usize; 16] = [0, 1, 2, 2, 3, 3, 3, 3, 4, 4, 4, 5, 5, 5, 6, 6];
+
+/// The class of tables that 16 bits of their length would make short; one table in so many is of it.
+const LONG: usize = 7;
+const LONG_ONE_IN: usize = 5000;
 
 /// All that the calls answer and all that they could touch.
 #[derive(Clone, PartialEq)]
@@ -42,7 +47,11 @@ pub struct CardCase {
 
 /// Lends one table of a seeded length to the paper's rules and to the library.
 pub fn run(card: Numbers, seeded: &mut Seeded) -> CardCase {
-    let class = seeded.pick(&SHARES);
+    let class = if seeded.one_in(LONG_ONE_IN) {
+        LONG
+    } else {
+        seeded.pick(&SHARES)
+    };
     let table_length = table_length(class, ROW * rows_due(&card, seeded), seeded);
     let before = CardAnswer {
         check: 0,
@@ -87,7 +96,8 @@ fn table_length(class: usize, due: usize, seeded: &mut Seeded) -> usize {
         3 => due,
         4 => due + 1,
         5 => due + seeded.between(2, 400) as usize,
-        _ => LONGEST,
+        6 => LONGEST,
+        _ => 65_536 + seeded.below(due),
     }
 }
 

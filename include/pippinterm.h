@@ -2,10 +2,12 @@
  * Pippinterm: the table of heights of a curve card, and the book of cards.
  *
  * Link target/staticlib/libcapi.a, which `rt staticlib capi` proves and builds
- * for x86-64. It needs memcpy and memset, which every C compiler expects, less
- * than 4 KB of stack besides what these two take, and no start-up. It keeps
- * nothing between two calls, so that calls from several threads meet only in
- * what they are lent.
+ * for x86-64 and the System V calling convention, as gcc has it there: the SSE
+ * registers are used, and so are the 128 bytes below the stack pointer (the red
+ * zone), which an interrupt handler on the same stack must leave alone. It needs
+ * memcpy and memset, which every C compiler expects, less than 4 KB of stack
+ * besides what these two take, and no start-up. It keeps nothing between two
+ * calls, so that calls from several threads meet only in what they are lent.
  *
  * No call asks for a test beforehand: every card, every text and every length
  * has its reply. Only the C side can see to this much:
@@ -61,6 +63,23 @@ extern "C" {
 #define PIPPINTERM_MOST_BYTES 8192    /* a text above this is refused */
 #define PIPPINTERM_LEAST_LIST 640     /* a list below this is refused; enough for every book */
 
+/* The profiles: widths in mm, slopes in per mille, least radius in metres.
+   Profile, half the carriageway, shoulder, crown slope, shoulder slope, least
+   shoulder, least radius, added slope on level ground and in mountains:
+
+     1  3750  3750  20  40  1500  125   5   5
+     2  3500  2500  20  40  1500  100  10  20
+     3  3000  2000  20  50  1000   60  10  20
+     4  3000  2000  30  60  1000   30  10  20
+     5  2250  1750  30  60  1000   30  10  20
+
+   The least length of the clothoid in metres, by the radius in metres; between
+   two of these radii the longer of their two lengths holds:
+
+     30:30  40:30  50:35  60:40  70:40  80:45  90:45  100:50  125:55  150:60
+     200:70  250:80  300:90  400:100  500:110  600:120  700:120  800:120
+     1000:120  2000:100 */
+
 /* What a turned-away card or book says: the trade's word, and the condition.
    A line is malformed where it is missing, not ended by byte 10, or anything
    else than: a number (the count line); a name, one blank and a number (a
@@ -71,11 +90,12 @@ extern "C" {
 #define PIPPINTERM_PROFILE 1          /* profile: not 1 to 5 */
 #define PIPPINTERM_TERRAIN 2          /* terrain: not 1 or 2 */
 #define PIPPINTERM_RADIUS 3           /* radius: below the profile's least, or above 2000 */
-#define PIPPINTERM_CLOTHOID 4         /* clothoid: shorter than the least for the radius, or above 300000 */
-#define PIPPINTERM_FULL_SLOPE 5       /* full slope: below the crown slope, or above 60 */
+#define PIPPINTERM_CLOTHOID 4         /* clothoid: shorter than the least length, or above 300000 */
+#define PIPPINTERM_FULL_SLOPE 5       /* full slope: below the profile's crown slope, or above 60 */
 #define PIPPINTERM_WIDENING 6         /* widening: above 3500, or above 0 with a radius above 1000 */
-#define PIPPINTERM_NARROW_SHOULDER 7  /* narrow shoulder: the widening leaves less than the least shoulder */
-#define PIPPINTERM_ADDED_SLOPE 8      /* added slope: the outer edge would climb by more than it allows */
+#define PIPPINTERM_NARROW_SHOULDER 7  /* narrow shoulder: widening + least shoulder above the shoulder */
+#define PIPPINTERM_ADDED_SLOPE 8      /* added slope: half the carriageway x (crown slope + full slope)
+                                         above added slope x length of the clothoid */
 #define PIPPINTERM_STEP 9             /* step: below 1000 or above 20000 */
 #define PIPPINTERM_UNIT 10            /* unit: not 1 or 10 */
 #define PIPPINTERM_SHORT_TABLE 11     /* short table: below 7 numbers a row */

@@ -1,4 +1,6 @@
-//! The constants of the header beside the figures of the paper.
+//! The constants and tables of the header beside the figures of the paper.
+
+use paper::card::{profile, LEAST_LENGTHS};
 
 const HEADER: &str = include_str!("../../../include/pippinterm.h");
 
@@ -71,4 +73,39 @@ fn constants_are_the_papers() {
     there.sort();
     due.sort();
     assert_eq!(there, due);
+}
+
+/// The words of the indented lines of the header that have numbers only, or pairs of numbers.
+fn figures() -> Vec<Vec<&'static str>> {
+    let is_figure = |word: &&str| word.split(':').all(|n| n.parse::<u32>().is_ok());
+    let lines = HEADER.lines().filter(|line| line.starts_with("     "));
+    let words = lines.map(|line| line.split_whitespace().take_while(is_figure).collect());
+    words.filter(|words: &Vec<_>| !words.is_empty()).collect()
+}
+
+fn number(word: &str) -> u32 {
+    word.parse().expect("a number")
+}
+
+#[test]
+fn profiles_are_the_papers() {
+    let rows = figures().into_iter().filter(|row| !row[0].contains(':'));
+    let there: Vec<Vec<u32>> = rows
+        .map(|row| row.into_iter().map(number).collect())
+        .collect();
+    let due = |n| {
+        let p = profile(n).expect("a profile");
+        let widths = [n, p.half, p.shoulder, p.crown_slope, p.shoulder_slope];
+        let least = [p.least_shoulder, p.least_radius];
+        [&widths[..], &least, &[p.added_level, p.added_mountain]].concat()
+    };
+    assert_eq!(there, (1..=5).map(due).collect::<Vec<_>>());
+}
+
+#[test]
+fn least_lengths_are_the_papers() {
+    let pairs = figures().into_iter().flatten();
+    let pairs = pairs.filter_map(|word| word.split_once(':'));
+    let there: Vec<_> = pairs.map(|(r, l)| (number(r), number(l))).collect();
+    assert_eq!(there, LEAST_LENGTHS);
 }

@@ -14,7 +14,8 @@
  *   - a pointer leads to as many numbers as are said to be there (NULL will do
  *     where the length given with it is 0), and they lie as C aligns them;
  *   - what is lent for writing in one call shares no memory with anything else
- *     that is lent in it, and nothing else writes there while the call runs.
+ *     that is lent in it, and nothing else writes to what is lent while the
+ *     call runs.
  */
 #ifndef PIPPINTERM_H
 #define PIPPINTERM_H

@@ -2,7 +2,7 @@
 
 use crate::books::Book;
 use crate::card_case::{unlike_number, wrong_number};
-use crate::lent::{Lent, Unlike};
+use crate::lent::{Lent, Unlike, ABOVE_16_BITS};
 use crate::seeded::Seeded;
 use std::hint::black_box;
 
@@ -20,7 +20,7 @@ const LONG_ONE_IN: usize = 1000;
 
 fn list_length(seeded: &mut Seeded) -> usize {
     if seeded.one_in(LONG_ONE_IN) {
-        65_536 + seeded.below(640)
+        ABOVE_16_BITS + seeded.below(640)
     } else {
         seeded.pick(&LIST_LENGTHS)
     }

@@ -1,6 +1,7 @@
 //! Seeded books: valid ones, such with a fault or two, and random bytes.
 
 use crate::cards;
+use crate::lent::ABOVE_16_BITS;
 use crate::seeded::Seeded;
 
 const CAPITALS_AND_DIGITS: &[u8] = b"ABCDEFGHIJKLMNOPQRSTUVWXYZ0123456789";
@@ -419,7 +420,7 @@ fn set_size(seeded: &mut Seeded) -> Book {
 /// A valid book and 65,536 bytes more: with 16 bits of its length it would be accepted.
 fn above_16_bits(seeded: &mut Seeded) -> Book {
     let mut book = book(lines(seeded));
-    book.text.resize(book.text.len() + 65_536, b' ');
+    book.text.resize(book.text.len() + ABOVE_16_BITS, b' ');
     book
 }
 

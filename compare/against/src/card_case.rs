@@ -1,7 +1,7 @@
 //! One card handed to the library, and all that it may touch compared with what is due.
 
 use crate::cards::Numbers;
-use crate::lent::{Lent, Unlike};
+use crate::lent::{Lent, Unlike, ABOVE_16_BITS};
 use crate::seeded::Seeded;
 use std::hint::black_box;
 
@@ -97,7 +97,7 @@ fn table_length(class: usize, due: usize, seeded: &mut Seeded) -> usize {
         4 => due + 1,
         5 => due + seeded.between(2, 400) as usize,
         6 => LONGEST,
-        _ => 65_536 + seeded.below(due),
+        _ => ABOVE_16_BITS + seeded.below(due),
     }
 }
 

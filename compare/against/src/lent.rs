@@ -8,6 +8,9 @@ use std::ops::Range;
 const LEAST_GUARDS: u32 = 8;
 const MOST_GUARDS: u32 = 16;
 
+/// The least length that 16 bits do not hold.
+pub const ABOVE_16_BITS: usize = 65_536;
+
 /// A number of a table, a list or a text.
 pub trait Number: Copy + PartialEq + Display {
     fn seeded(seeded: &mut Seeded) -> Self;

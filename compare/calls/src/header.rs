@@ -2,7 +2,7 @@
 
 use paper::card::{profile, LEAST_LENGTHS};
 
-const HEADER: &str = include_str!("../../../include/pippinterm.h");
+pub const HEADER: &str = include_str!("../../../include/pippinterm.h");
 
 /// "What a turned-away card or book says", by the trade's word.
 const REFUSALS: [(&str, u32); 19] = [

@@ -1,9 +1,11 @@
 //! How much stack the calls take: less than the header says.
 
+use crate::header::HEADER;
 use crate::{check_card, fill_table, read_book};
 use std::arch::asm;
 
-/// "Less than 4 KB of stack."
+/// What the header says, and the same in bytes.
+const WORDS: &str = "less than 4 KB of stack";
 const SAID: usize = 4096;
 /// What the draft of a book's list takes by itself; a measure below it would measure nothing.
 const DRAFT: usize = 640 * 4;
@@ -48,6 +50,11 @@ fn longest_book() -> Vec<u8> {
         .chain(bodies)
         .collect();
     text.into_bytes()
+}
+
+#[test]
+fn said_in_the_header() {
+    assert!(HEADER.contains(WORDS));
 }
 
 #[test]

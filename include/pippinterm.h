@@ -2,17 +2,20 @@
  * Pippinterm: the table of heights of a curve card, and the book of cards.
  *
  * Link target/staticlib/libcapi.a, which `rt staticlib capi` proves and builds
- * for x86-64 and the System V calling convention, as gcc has it there: the SSE
- * registers are used, and so are the 128 bytes below the stack pointer (the red
- * zone), which an interrupt handler on the same stack must leave alone. It needs
- * memcpy and memset, which every C compiler expects, less than 4 KB of stack
- * besides what these two take, and no start-up. It keeps nothing between two
- * calls, so that calls from several threads meet only in what they are lent.
+ * for x86-64 and the System V calling convention, as gcc has it there, and for
+ * no other target: the SSE registers are used, and so are the 128 bytes below
+ * the stack pointer (the red zone), which an interrupt handler on the same
+ * stack must leave alone. No call reckons with floats. It needs memcpy and
+ * memset, which every C compiler expects, less than 4 KB of stack besides what
+ * these two take, and no start-up. It keeps nothing between two calls, so that
+ * calls from several threads meet only in what they are lent.
  *
  * No call asks for a test beforehand: every card, every text and every length
  * has its reply. Only the C side can see to this much:
- *   - a pointer leads to as many numbers as are said to be there (NULL will do
- *     where the length given with it is 0), and they lie as C aligns them;
+ *   - a pointer leads to as many numbers as are said to be there, and they lie
+ *     as C aligns them. A table, a text or a list may be NULL where the length
+ *     given with it is 0; card, count and line are never NULL, since a card has
+ *     its eight numbers in every call, and count and line are always written;
  *   - what is lent for writing in one call shares no memory with anything else
  *     that is lent in it, and nothing else writes to what is lent while the
  *     call runs.
@@ -88,26 +91,26 @@ extern "C" {
    to 7 decimal digits, without a leading zero but in 0 itself; a name is 1 to 8
    capitals or digits. */
 #define PIPPINTERM_ACCEPTED 0
-#define PIPPINTERM_PROFILE 1          /* profile: not 1 to 5 */
-#define PIPPINTERM_TERRAIN 2          /* terrain: not 1 or 2 */
-#define PIPPINTERM_RADIUS 3           /* radius: below the profile's least, or above 2000 */
-#define PIPPINTERM_CLOTHOID 4         /* clothoid: shorter than the least length, or above 300000 */
-#define PIPPINTERM_FULL_SLOPE 5       /* full slope: below the profile's crown slope, or above 60 */
-#define PIPPINTERM_WIDENING 6         /* widening: above 3500, or above 0 with a radius above 1000 */
-#define PIPPINTERM_NARROW_SHOULDER 7  /* narrow shoulder: widening + least shoulder above the shoulder */
-#define PIPPINTERM_ADDED_SLOPE 8      /* added slope: half the carriageway x (crown slope + full slope)
-                                         above added slope x length of the clothoid */
-#define PIPPINTERM_STEP 9             /* step: below 1000 or above 20000 */
-#define PIPPINTERM_UNIT 10            /* unit: not 1 or 10 */
-#define PIPPINTERM_SHORT_TABLE 11     /* short table: below 7 numbers a row */
-#define PIPPINTERM_BOOK_SIZE 21       /* book size: 0 bytes, or above 8192; line 0 */
-#define PIPPINTERM_COUNT_LINE 22      /* count line: malformed, or not 1 to 64 */
-#define PIPPINTERM_CONTENTS_LINE 23   /* contents line: malformed */
-#define PIPPINTERM_WRONG_LINE 24      /* wrong line: not the number due */
-#define PIPPINTERM_TWIN_NAME 25       /* twin name: stands in an earlier contents line */
-#define PIPPINTERM_BODY 26            /* body: malformed */
-#define PIPPINTERM_TAIL 27            /* tail: bytes after the last body */
-#define PIPPINTERM_SHORT_LIST 28      /* short list: below 640 numbers; line 0 */
+#define PIPPINTERM_REFUSED_PROFILE 1          /* profile: not 1 to 5 */
+#define PIPPINTERM_REFUSED_TERRAIN 2          /* terrain: not 1 or 2 */
+#define PIPPINTERM_REFUSED_RADIUS 3           /* radius: below the profile's least, or above 2000 */
+#define PIPPINTERM_REFUSED_CLOTHOID 4         /* clothoid: shorter than the least length, or above 300000 */
+#define PIPPINTERM_REFUSED_FULL_SLOPE 5       /* full slope: below the profile's crown slope, or above 60 */
+#define PIPPINTERM_REFUSED_WIDENING 6         /* widening: above 3500, or above 0 with a radius above 1000 */
+#define PIPPINTERM_REFUSED_NARROW_SHOULDER 7  /* narrow shoulder: widening + least shoulder above the shoulder */
+#define PIPPINTERM_REFUSED_ADDED_SLOPE 8      /* added slope: half the carriageway x (crown slope + full
+                                                 slope) above added slope x length of the clothoid */
+#define PIPPINTERM_REFUSED_STEP 9             /* step: below 1000 or above 20000 */
+#define PIPPINTERM_REFUSED_UNIT 10            /* unit: not 1 or 10 */
+#define PIPPINTERM_REFUSED_SHORT_TABLE 11     /* short table: below 7 numbers a row */
+#define PIPPINTERM_REFUSED_BOOK_SIZE 21       /* book size: 0 bytes, or above 8192; line 0 */
+#define PIPPINTERM_REFUSED_COUNT_LINE 22      /* count line: malformed, or not 1 to 64 */
+#define PIPPINTERM_REFUSED_CONTENTS_LINE 23   /* contents line: malformed */
+#define PIPPINTERM_REFUSED_WRONG_LINE 24      /* wrong line: not the number due */
+#define PIPPINTERM_REFUSED_TWIN_NAME 25       /* twin name: stands in an earlier contents line */
+#define PIPPINTERM_REFUSED_BODY 26            /* body: malformed */
+#define PIPPINTERM_REFUSED_TAIL 27            /* tail: bytes after the last body */
+#define PIPPINTERM_REFUSED_SHORT_LIST 28      /* short list: below 640 numbers; line 0 */
 
 /*
  * Checks a card.

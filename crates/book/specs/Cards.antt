@@ -5,7 +5,7 @@ use Prim.Native.Nat.{ℕ, _+_, _*_, _≤_}
 use mathlib.Core.Path.{_≡_}
 use mathlib.Core.List.{List, _∷_, _++_}
 use lib.ListN.{length, getD, take, drop}
-use Rattle.runoff.specs.declared.Card.{Card}
+use Rattle.card.specs.declared.Card.{Card}
 use Rattle.book.specs.declared.NamePlace.{NamePlace}
 use Rattle.book.specs.Book.{leastList, curveWidth, listAfter}
 use Rattle.book.specs.Printed.{Curve, IsBook, bookText}

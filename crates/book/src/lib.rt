@@ -7,7 +7,7 @@ mod text;
 use crate::reply::refused;
 use crate::reply::text_reply;
 use crate::store::copy_numbers;
-use runoff::Card;
+use card::Card;
 ghost use mathlib.Core.Path.{_≡_};
 ghost use lib.ListN.{length, getD};
 ghost use Rattle.book.specs.Book.{replyToBook, listAfter};

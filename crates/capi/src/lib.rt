@@ -1,6 +1,6 @@
 // The calls for firmware in C: the library's own, with the card as its eight numbers and the reply as a number and counts.
 use book::read_book;
-use runoff::Card;
+use card::Card;
 use runoff::check_card;
 use runoff::fill_table;
 ghost use mathlib.Core.Path.{_≡_};

@@ -20,7 +20,7 @@ use crate::text::byte_at;
 use crate::text::is_number;
 use crate::text::read_line;
 use book::BookReply;
-use runoff::Card;
+use card::Card;
 use runoff::Reply;
 ghost use Prim.Native.Nat.{_≤_, _<_};
 ghost use lib.ListN.{length};

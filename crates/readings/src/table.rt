@@ -1,7 +1,7 @@
 // The table that is lent to the call, and what stands in it afterwards.
 ghost use Prim.Native.Nat.{_<_};
 use crate::text::Figure;
-use runoff::Card;
+use card::Card;
 use runoff::Reply;
 
 // The table has room for 301 rows of seven numbers, the most that a card can have, and for some more that must stay as they are.

@@ -3,18 +3,16 @@
 use mathlib.Core.Path.{_≡_, refl}
 use Prim.Native.Nat.{ℕ, _*_, _≤_, _<_}
 use native.Mathlib.Omega.{arith}
-use Rattle.exact.specs.Exact.{Exact}
-use Rattle.exact.specs.Rounding.{lower}
-use Rattle.exact.proofs.Rounded.{rounding-laws}
-use Rattle.runoff.specs.declared.Card.{Card}
+use Rattle.card.specs.declared.Card.{Card}
+use Rattle.card.specs.Profile.{addedOf}
+use Rattle.card.proofs.AccurateNumbers.{accurate}
 use Rattle.runoff.specs.Lines.{sectionOf, axis}
-use Rattle.runoff.specs.Rows.{stationOf, row, inUnits}
+use Rattle.runoff.specs.Rows.{stationOf, row}
 use Rattle.runoff.specs.Refusal.{refusal}
-use Rattle.runoff.specs.Accepted.{addedOf}
 use Rattle.runoff.specs.Climbing.{TabledAt, ClimbingRule, ClimbingTheorem}
-use Rattle.runoff.specs.Accuracy.{Accurate, AccurateRow, AccuracyTheorem}
-use Rattle.runoff.proofs.Accepts.{unit-in, accepted-rule}
-use Rattle.runoff.proofs.RowPlaces.{station-most, station-rises}
+use Rattle.runoff.specs.Accuracy.{AccurateRow, AccuracyTheorem}
+use Rattle.runoff.proofs.Accepts.{unit-of, accepted-rule}
+use Rattle.card.proofs.RowPlaces.{station-most, station-rises}
 use Rattle.runoff.proofs.ExactClimb.{ClimbPremises, climbs}
 use Rattle.runoff.proofs.TabledClimb.{on-whole, tabled}
 use Rattle.runoff.proofs.Proper.{proper}
@@ -27,14 +25,14 @@ module _ (card : Card) (passes : refusal card ≡ 0) where
       record {
         wide = omega (arith, z .half-least);
         crowned = omega (arith, z .crown-least);
-        turned = a .slope-least;
+        turned = a .before .slope-least;
         long = omega (arith, accepted-rule card .long passes);
         steep = omega (arith, z .added-least);
         gentle = a .added;
       }
 
   unit-some : 0 < card .unit
-  unit-some = unit-in card passes .0
+  unit-some = unit-of card passes .0
 
   at-stations : (d e : ℕ) → d ≤ e → e ≤ card .clothoid → TabledAt card d e
   unfolding row
@@ -45,29 +43,25 @@ module _ (card : Card) (passes : refusal card ≡ 0) where
       record {
         exact = λ s t a b. climbs premises a b;
         tabled = at-stations;
-        rows = λ i j h. at-stations (stationOf card i) (stationOf card j) (station-rises card i j h) (station-most card j);
+        rows = λ i j h. at-stations (stationOf card i) (stationOf card j) (station-rises (card .clothoid) (card .step) i j h) (station-most (card .clothoid) (card .step) j);
       }
 
   pub narrow : card .«full_widening» ≤ sectionOf card .c
   narrow = omega (arith, accepted-rule card .exactly .0 passes .shoulder)
 
-  accurate : (x : Exact) → 0 < x .den → Accurate (card .unit) x (inUnits (card .unit) x)
-  accurate x p =
-      let laws = rounding-laws lower (1000 * card .unit) (omega (arith, unit-some)) in
-      record { fraction = p; nearest = laws .exists x p; half = laws .half x p }
-
   accurate-row : (d : ℕ) → d ≤ card .clothoid → AccurateRow card d
   unfolding row
   accurate-row d h =
       let lines = proper premises narrow (on-whole (sectionOf card) d h) in
+      let is = accurate (card .unit) unit-some in
       record {
         station = refl;
-        widening = accurate _ (omega (arith, lines .widening));
-        innerBrow = accurate _ (lines .innerBrow);
-        innerEdge = accurate _ (lines .innerEdge);
-        axis = accurate _ (omega arith);
-        outerEdge = accurate _ (lines .outerEdge);
-        outerBrow = accurate _ (lines .outerBrow);
+        widening = is _ (omega (arith, lines .widening));
+        innerBrow = is _ (lines .innerBrow);
+        innerEdge = is _ (lines .innerEdge);
+        axis = is _ (omega arith);
+        outerEdge = is _ (lines .outerEdge);
+        outerBrow = is _ (lines .outerBrow);
       }
 
 pub climbing-rule : ClimbingTheorem

@@ -8,12 +8,12 @@ use native.Mathlib.Omega.{arith}
 use lib.Dec.{lit<}
 use lib.IntN.{ℤ, pos}
 use lib.ListN.{length-append}
-use Rattle.runoff.specs.declared.Card.{Card}
+use Rattle.card.specs.declared.Card.{Card}
 use Rattle.runoff.specs.Refusal.{refusal}
 use Rattle.runoff.specs.Rows.{row, rowOf, rowCount, rows, stationOf}
 use Rattle.runoff.specs.Climbing.{stationIn, outerEdgeIn, ClimbingTable}
 use Rattle.runoff.proofs.Accepts.{accepted}
-use Rattle.runoff.proofs.RowPlaces.{station-farther}
+use Rattle.card.proofs.RowPlaces.{station-farther}
 use Rattle.runoff.proofs.RowBlocks.{length-rows, number-in}
 use Rattle.runoff.proofs.ClimbingRule.{climbing-rule}
 
@@ -34,7 +34,7 @@ module _ (card : Card) (rest : List ℤ) where
       record {
         held = rw length-append (omega (arith, length-rows card));
         stations = station-in;
-        farther = λ i j h g. station-farther card i j (omega (arith, accepted card passes .step-least)) h g;
+        farther = λ i j h g. station-farther (card .clothoid) (card .step) i j (omega (arith, accepted card passes .after .step-least)) h g;
         exact = rule .exact;
         rows = λ i j h g.
             let before : i < rowCount card = omega arith in

@@ -1,11 +1,4 @@
-pub mod Product
-pub mod Every
-pub mod Steps
-pub mod Clothoids
-pub mod Entries
-pub mod Unmet
 pub mod Accepts
-pub mod RowPlaces
 pub mod MadeNumber
 pub mod Slopes
 pub mod Heights
@@ -14,7 +7,6 @@ pub mod ExactClimb
 pub mod Proper
 pub mod TabledClimb
 pub mod ClimbingRule
-pub mod Joined
 pub mod RowBlocks
 pub mod Limits
 pub mod ClimbingTable

@@ -2,7 +2,7 @@
 -- Assumes nothing.
 use mathlib.Core.Path.{_≡_, refl}
 use native.Mathlib.Omega.{arith}
-use Rattle.runoff.specs.declared.Card.{Card}
+use Rattle.card.specs.declared.Card.{Card}
 use Rattle.runoff.specs.Refusal.{refusal}
 use Rattle.runoff.specs.Lines.{sectionOf}
 use Rattle.runoff.specs.Runoff.{runoffOf}
@@ -24,13 +24,12 @@ module _ (card : Card) (passes : refusal card ≡ 0) where
         half-least = omega (arith, z .half-least);
         half-most = z .half-most;
         shoulder-most = z .shoulder-most;
-        crown-least = omega (arith, z .crown-least);
         crown-most = z .crown-most;
         side-most = z .side-most;
-        turned = a .slope-least;
-        slope-most = a .slope-most;
+        turned = a .before .slope-least;
+        slope-most = a .before .slope-most;
         long = omega (arith, accepted-rule card .long passes);
-        clothoid-most = a .clothoid-most;
+        clothoid-most = a .before .clothoid-most;
         narrow = narrow card passes;
         stages = refl;
       }

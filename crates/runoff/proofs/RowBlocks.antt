@@ -2,13 +2,13 @@
 -- Assumes nothing.
 use mathlib.Core.Path.{_≡_, refl}
 use mathlib.Core.List.{List, _++_}
-use Prim.Native.Nat.{ℕ, _+_, _*_, _-_, _<_}
+use Prim.Native.Nat.{ℕ, _+_, _*_, _<_}
 use lib.IntN.{ℤ, pos}
-use lib.ListN.{length, drop, getD}
-use borrow.Rule.Slice.PartMut.{putMid}
-use Rattle.runoff.specs.declared.Card.{Card}
-use Rattle.runoff.specs.Rows.{cells, rowOf, rowCount, rowWidth, stationOf, joined, rows}
-use Rattle.runoff.proofs.Joined.{length-joined, next, at-place}
+use lib.ListN.{length, getD}
+use Rattle.card.specs.declared.Card.{Card}
+use Rattle.card.specs.Rows.{joined}
+use Rattle.runoff.specs.Rows.{cells, rowOf, rowCount, rowWidth, stationOf, rows}
+use Rattle.card.proofs.Joined.{length-joined, at-place}
 
 module _ (card : Card) where
   abbrev block : ℕ → List ℤ
@@ -17,12 +17,6 @@ module _ (card : Card) where
   -- the first i rows
   abbrev pub firstRows : ℕ → List ℤ
   firstRows i = joined block i
-
-  -- row i is written into its part of the table: one row more
-  pub next-row :
-      (i : ℕ) (old : List ℤ) →
-      putMid (rowWidth * i) (rowWidth * i + rowWidth - rowWidth * i) (firstRows i ++ drop (rowWidth * i) old) (block i) ≡ firstRows (i + 1) ++ drop (rowWidth * (i + 1)) old
-  next-row = next block rowWidth (λ i. refl)
 
   pub all-rows : firstRows (rowCount card) ≡ rows card
   unfolding rows

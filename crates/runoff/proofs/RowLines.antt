@@ -8,10 +8,10 @@ use Rattle.exact.specs.Exact.{Exact, whole, ratio, _⊗_}
 use Rattle.exact.specs.Parts.{Is}
 use Rattle.exact.proofs.Is.{is-one, is-times, is-ratio, is-same}
 use Rattle.exact.proofs.Rounded.{rounding-laws}
+use Rattle.card.specs.Rows.{tie, inUnits}
 use Rattle.runoff.specs.declared.Runoff.{Runoff}
 use Rattle.runoff.specs.declared.turning.Slopes.{Slopes}
 use Rattle.runoff.specs.Lines.{Section, axisHeight, widening, outerEdge, outerBrow, innerEdge, innerBrow}
-use Rattle.runoff.specs.Rows.{tie, inUnits}
 use Rattle.runoff.specs.Reckoning.{sectionIn, axisIn, Limits, Ready, Sized}
 use Rattle.runoff.proofs.StationSlopes.{shoulder-rise, crown-rise}
 use Rattle.runoff.proofs.Heights.{outer-edge, outer-brow, inner-edge, inner-brow, widening-is}

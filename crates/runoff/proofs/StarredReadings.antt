@@ -6,17 +6,19 @@ use mathlib.Core.List.{List, [], _∷_}
 use Prim.Native.Nat.{ℕ}
 use borrow.Author.Tests.{ltb-true, not-true}
 use Rattle.exact.specs.Rounding.{rounded}
-use Rattle.runoff.specs.Profile.{profiles, profileAt}
-use Rattle.runoff.specs.Clothoid.{clothoids, leastLength}
+use Rattle.card.specs.Profile.{profiles, profileAt}
+use Rattle.card.specs.Clothoid.{clothoids, leastLength}
+use Rattle.card.specs.Rows.{joined}
+use Rattle.card.specs.Reasons.{Test, first}
 use Rattle.runoff.specs.Lines.{outerSlope, outerEdge, outerBrow, innerSlope, widening, innerEdge, innerShoulder, shoulderSlope, innerBrow}
-use Rattle.runoff.specs.Rows.{row, joined, rows}
-use Rattle.runoff.specs.declared.Card.{Card}
-use Rattle.runoff.specs.Refusal.{Test, first, ownTests, refusal}
+use Rattle.runoff.specs.Rows.{row, rows}
+use Rattle.card.specs.declared.Card.{Card}
+use Rattle.runoff.specs.Refusal.{ownTests, refusal}
 use Rattle.runoff.specs.Table.{replyNumber, replyTo, tableAfter}
 use Rattle.runoff.specs.Readings.{Readings, Gives, among, keep, others}
 use Rattle.runoff.specs.Boundaries.{edges, Boundaries}
-use Rattle.runoff.proofs.Every.{every, here, later}
-use Rattle.runoff.proofs.Accepts.{numbered, zero-unmet}
+use Rattle.card.proofs.Every.{every, here, later}
+use Rattle.card.proofs.Tests.{numbered, zero-unmet}
 
 -- the tests whose numbers are in ns
 abbrev only : List ℕ → List Test → List Test

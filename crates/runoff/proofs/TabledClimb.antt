@@ -8,8 +8,8 @@ use Rattle.exact.proofs.Is.{is-one, is-le}
 use Rattle.exact.proofs.Near.{near-first, near-second}
 use Rattle.exact.proofs.Apart.{apart}
 use Rattle.exact.proofs.Rounded.{rounding-laws}
+use Rattle.card.specs.Rows.{tie, inUnits}
 use Rattle.runoff.specs.Lines.{Section, On, outerEdge}
-use Rattle.runoff.specs.Rows.{tie, inUnits}
 use Rattle.runoff.specs.Climbing.{Climbs, Tabled, tabledHeight}
 use Rattle.runoff.proofs.ExactClimb.{ClimbPremises, climbs, rises}
 

@@ -1,20 +1,14 @@
 -- The accuracy rule: what each number of a row is.
 -- Assumes nothing.
 use mathlib.Core.Path.{_≡_}
-use Prim.Native.Nat.{ℕ, _*_, _≤_, _<_}
-use lib.IntN.{ℤ, pos}
-use Rattle.exact.specs.Exact.{Exact, frac, whole, _⊗_, _≼_, distance}
-use Rattle.exact.specs.Rounding.{lower, units, Nearest}
-use Rattle.runoff.specs.declared.Card.{Card}
+use Prim.Native.Nat.{ℕ, _≤_}
+use lib.IntN.{pos}
+use Rattle.exact.specs.Exact.{whole, _⊗_}
+use Rattle.card.specs.declared.Card.{Card}
+use Rattle.card.specs.Rows.{Accurate}
 use Rattle.runoff.specs.Lines.{sectionOf, axis, widening, innerBrow, innerEdge, outerEdge, outerBrow}
 use Rattle.runoff.specs.Rows.{rowOf}
 use Rattle.runoff.specs.Refusal.{refusal}
-
--- n counts of the unit are nearest to x micrometres, halfway to the lower number, and within half a unit
-pub record Accurate (unit : ℕ) (x : Exact) (n : ℤ) : Type 0 where
-  pub fraction : 0 < x .den
-  pub nearest : Nearest lower (1000 * unit) x n
-  pub half : distance x (units (1000 * unit) n) ≼ frac (1000 * unit) 2
 
 -- the accuracy rule of the row at the station d
 pub record AccurateRow (card : Card) (d : ℕ) : Type 0 where

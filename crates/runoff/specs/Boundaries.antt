@@ -5,11 +5,12 @@ use mathlib.Core.Path.{_≡_}
 use mathlib.Core.List.{List, [], _∷_, _++_, map}
 use Prim.Native.Nat.{ℕ, zero, suc}
 use lib.IntN.{ℤ, pos, negℤ}
-use Rattle.runoff.specs.declared.Card.{Card}
+use Rattle.card.specs.declared.Card.{Card}
+use Rattle.card.specs.Card.{card}
 use Rattle.runoff.specs.Rows.{cells, rowOf, rows}
 use Rattle.runoff.specs.Refusal.{refusal}
 use Rattle.runoff.specs.Table.{replyTo, tableAfter}
-use Rattle.runoff.specs.Readings.{card, ramp}
+use Rattle.runoff.specs.Readings.{ramp}
 
 -- a card and the number that it gives
 pub record Edge : Type 0 where
@@ -86,6 +87,7 @@ edges =
     -- 8, added slope: h × (p + v) above added slope × L
     edge (card 1 1 125 60000 60 0 20000 10) 0 ∷
     edge (card 1 1 125 59999 60 0 20000 10) 8 ∷
+    edge (card 1 2 125 60000 60 0 20000 10) 0 ∷
     edge (card 1 2 125 59999 60 0 20000 10) 8 ∷
     -- 9, step: below 1000 or above 20000
     edge (card 3 1 700 120000 40 400 0 10) 9 ∷

@@ -9,11 +9,11 @@ use lib.ListN.{length, getD}
 use lib.Signed.{_≤ℤ_}
 use Rattle.exact.specs.Exact.{Exact, frac, whole, _⊕_, _⊖_, _⊗_, _≼_, _≺_, _≈_, distance}
 use Rattle.exact.specs.Rounding.{units}
-use Rattle.runoff.specs.declared.Card.{Card}
+use Rattle.card.specs.declared.Card.{Card}
+use Rattle.card.specs.Profile.{addedOf}
 use Rattle.runoff.specs.Lines.{Section, sectionOf, On, outerEdge, firstReached}
 use Rattle.runoff.specs.Rows.{stationOf, rowWidth, rowOf}
 use Rattle.runoff.specs.Refusal.{refusal}
-use Rattle.runoff.specs.Accepted.{addedOf}
 
 -- the full slope equals the crown slope and both stations are at or past the point where it is first reached
 pub record Level (x : Section) (s t : Exact) : Type 0 where

@@ -1,6 +1,3 @@
-pub mod Words
-pub mod Profile
-pub mod Clothoid
 pub mod Lines
 pub mod Rows
 pub mod Refusal

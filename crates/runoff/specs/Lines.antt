@@ -5,9 +5,9 @@ use mathlib.Core.Bool.{Bool, cond}
 use Prim.Native.Nat.{ℕ, _+_, _*_, _<_}
 use lib.Dec.{leb}
 use Rattle.exact.specs.Exact.{Exact, frac, whole, minus, _⊕_, _⊖_, _⊗_, _⊘_, _≼_, atMost, greater, line}
-use Rattle.runoff.specs.declared.Card.{Card}
-use Rattle.runoff.specs.declared.tables.Profile.{Profile}
-use Rattle.runoff.specs.Profile.{profileAt}
+use Rattle.card.specs.declared.Card.{Card}
+use Rattle.card.specs.declared.Profile.{Profile}
+use Rattle.card.specs.Profile.{profileAt}
 
 -- the paper's letters: half carriageway h, shoulder c, full widening W and clothoid L in mm; crown slope p, shoulder slope q and full slope v in ‰
 pub record Section : Type 0 where

@@ -7,26 +7,14 @@ use mathlib.Core.List.{List, [], _∷_}
 use Prim.Native.Nat.{ℕ}
 use lib.Dec.{eqb}
 use lib.IntN.{ℤ, pos, negℤ}
-use Rattle.runoff.specs.declared.Card.{Card}
-use Rattle.runoff.specs.Clothoid.{leastLength}
+use Rattle.card.specs.declared.Card.{Card}
+use Rattle.card.specs.Card.{card}
+use Rattle.card.specs.Clothoid.{leastLength}
+use Rattle.card.specs.Reasons.{Test, first}
 use Rattle.runoff.specs.Lines.{sectionOf, isEven}
 use Rattle.runoff.specs.Rows.{rowOf, rows}
-use Rattle.runoff.specs.Refusal.{Test, first, ownTests, refusal}
+use Rattle.runoff.specs.Refusal.{ownTests, refusal}
 use Rattle.runoff.specs.Table.{replyTo}
-
--- a card's eight numbers in their order
-abbrev pub card : ℕ → ℕ → ℕ → ℕ → ℕ → ℕ → ℕ → ℕ → Card
-card profile terrain R L v W step unit =
-    record {
-      profile = profile;
-      terrain = terrain;
-      radius = R;
-      clothoid = L;
-      «full_slope» = v;
-      «full_widening» = W;
-      step = step;
-      unit = unit;
-    }
 
 abbrev pub ramp : Card
 ramp = card 5 1 30 30000 60 600 20000 1

@@ -5,12 +5,12 @@ use Prim.Native.Nat.{ℕ, _+_, _*_, _≤_, _<_}
 use lib.IntN.{ℤ, natAbs}
 use Rattle.exact.specs.Exact.{Exact, whole}
 use Rattle.exact.specs.Parts.{Is}
+use Rattle.card.specs.Rows.{inUnits}
 use Rattle.runoff.specs.declared.Runoff.{Runoff}
 use Rattle.runoff.specs.declared.turning.Slope.{Slope}
 use Rattle.runoff.specs.declared.turning.Slopes.{Slopes}
 use Rattle.runoff.specs.declared.rows.Sides.{Sides}
 use Rattle.runoff.specs.Lines.{Section, axis, axisHeight, outerSlope, innerSlope, shoulderSlope, innerBrow, innerEdge, outerEdge, outerBrow}
-use Rattle.runoff.specs.Rows.{inUnits}
 use Rattle.runoff.specs.Runoff.{stagesOf}
 
 -- the section of a runoff as the code holds it
@@ -35,7 +35,6 @@ pub record Limits (r : Runoff) : Type 0 where
   pub half-least : 1 ≤ r .«half_width»
   pub half-most : r .«half_width» ≤ 3750
   pub shoulder-most : r .«shoulder_width» ≤ 3750
-  pub crown-least : 1 ≤ r .«crown_slope»
   pub crown-most : r .«crown_slope» ≤ 30
   pub side-most : r .«shoulder_slope» ≤ 60
   pub turned : r .«crown_slope» ≤ r .«full_slope»

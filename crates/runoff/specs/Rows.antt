@@ -1,38 +1,20 @@
--- Document 01, "Rows": where the rows stand, and the seven numbers of a row.
+-- Document 01, "Rows": the seven numbers of a row, and the rows of a card.
 -- Assumes nothing.
-use mathlib.Core.Bool.{cond}
-use mathlib.Core.List.{List, [], _∷_, _++_}
-use mathlib.Core.Logic.{_↔_}
-use Prim.Native.Nat.{ℕ, zero, suc, _+_, _*_, _-_, _/_, _<_}
-use lib.Dec.{ltb}
+use mathlib.Core.List.{List, [], _∷_}
+use Prim.Native.Nat.{ℕ}
 use lib.IntN.{ℤ, pos}
-use Rattle.exact.specs.Exact.{Exact, whole, _⊗_}
-use Rattle.exact.specs.Rounding.{Tie, lower, rounded}
-use Rattle.runoff.specs.declared.Card.{Card}
+use Rattle.exact.specs.Exact.{whole, _⊗_}
+use Rattle.card.specs.declared.Card.{Card}
+use Rattle.card.specs.Rows.{rowsTo, stationTo, inUnits, joined}
 use Rattle.runoff.specs.declared.rows.Row.{Row}
 use Rattle.runoff.specs.Lines.{Section, sectionOf, axis, widening, innerBrow, innerEdge, outerEdge, outerBrow}
 
--- how many of 0, step, 2 × step and so on lie below L
-abbrev pub multiplesBelow : ℕ → ℕ → ℕ
-multiplesBelow L step = (L + (step - 1)) / step
-
--- THEOREM (proofs/RowPlaces.antt): the multiple i × step is one of them exactly when it is below L
-abbrev pub CountsMultiples : Type 0
-CountsMultiples = (L step i : ℕ) → 0 < step → (i < multiplesBelow L step) ↔ (i * step < L)
-
--- rows stand at 0, step, 2 × step and so on below L, then one at L
+-- how many rows a card has, and the station of row i
 abbrev pub rowCount : Card → ℕ
-rowCount card = multiplesBelow (card .clothoid) (card .step) + 1
+rowCount card = rowsTo (card .clothoid) (card .step)
 
 abbrev pub stationOf : Card → ℕ → ℕ
-stationOf card i = cond (ltb (i * card .step) (card .clothoid)) (i * card .step) (card .clothoid)
-
--- a height of x micrometres in counts of the unit, which is in mm: rounded once, to the nearest, and halfway goes to the lower number
-abbrev pub tie : Tie
-tie = lower
-
-abbrev pub inUnits : ℕ → Exact → ℤ
-inUnits unit x = rounded tie (1000 * unit) x
+stationOf card i = stationTo (card .clothoid) (card .step) i
 
 -- a row has seven signed 32-bit numbers: station in mm; widening; inner brow; inner edge; axis; outer edge; outer brow
 -- (the struct Row of src/rows.rt, in this order)
@@ -58,11 +40,6 @@ row x unit d =
 -- the card's row at the station d
 abbrev pub rowOf : Card → ℕ → Row
 rowOf card d = row (sectionOf card) (card .unit) d
-
--- f 0, f 1, .., f (k − 1), one after the other
-unfoldable pub joined : (ℕ → List ℤ) → ℕ → List ℤ
-joined f zero = []
-joined f (suc k) = joined f k ++ f k
 
 -- the rows of a card, one after the other
 unfoldable pub rows : Card → List ℤ

@@ -4,7 +4,7 @@ use mathlib.Core.Path.{_≡_}
 use mathlib.Core.Bool.{cond}
 use Prim.Native.Nat.{ℕ}
 use lib.Dec.{eqb}
-use Rattle.runoff.specs.declared.Card.{Card}
+use Rattle.card.specs.declared.Card.{Card}
 use Rattle.runoff.specs.declared.Stages.{Stages}
 use Rattle.runoff.specs.declared.Stages.the-variants.{Even, TwoStage}
 use Rattle.runoff.specs.declared.Runoff.{Runoff}

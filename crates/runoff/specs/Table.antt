@@ -6,10 +6,11 @@ use Prim.Native.Nat.{ℕ, _*_}
 use lib.Dec.{eqb}
 use lib.IntN.{ℤ}
 use lib.ListN.{length, drop}
-use Rattle.runoff.specs.declared.Card.{Card}
+use Rattle.card.specs.declared.Card.{Card}
+use Rattle.card.specs.Reasons.{first}
 use Rattle.runoff.specs.declared.Reply.{Reply}
 use Rattle.runoff.specs.Rows.{rowCount, rowWidth, rows}
-use Rattle.runoff.specs.Refusal.{first, tests}
+use Rattle.runoff.specs.Refusal.{tests}
 
 -- 1 to 11 in rising order, first one met; room is the length of the lent table
 unfoldable pub replyNumber : Card → ℕ → ℕ

@@ -3,7 +3,7 @@
 use mathlib.Core.Path.{_≡_}
 use mathlib.Core.Bool.{false}
 use Rattle.exact.specs.Exact.{Exact, whole, minus, _⊖_, _⊗_, _≼_, _≈_}
-use Rattle.runoff.specs.declared.Card.{Card}
+use Rattle.card.specs.declared.Card.{Card}
 use Rattle.runoff.specs.Lines.{Section, sectionOf, On, isEven, joint, outerSlope, outerEdge, innerBrow, Fractions}
 use Rattle.runoff.specs.Refusal.{refusal}
 

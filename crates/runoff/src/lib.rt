@@ -2,27 +2,26 @@
 mod conditions;
 mod rounding;
 mod rows;
-mod tables;
 mod turning;
 
-use crate::conditions::is_neither;
-use crate::conditions::is_outside;
 use crate::conditions::is_too_narrow;
 use crate::conditions::is_too_steep;
-use crate::conditions::is_too_wide;
-use crate::rows::row_count;
 use crate::rows::write_rows;
-use crate::tables::CLOTHOIDS;
-use crate::tables::Profile;
-use crate::tables::added_slope;
-use crate::tables::longer;
-use crate::tables::profile_at;
+use card::Card;
+use card::Profile;
+use card::added_slope;
+use card::check_after;
+use card::check_before;
+use card::check_room;
+use card::profile_at;
+use card::row_count;
 ghost use mathlib.Core.Path.{_≡_};
-ghost use Rattle.runoff.specs.Clothoid.{leastLength};
 ghost use Prim.Native.Nat.{_≤_};
 ghost use denote.Ref.{now};
-ghost use lib.ListN.{length, drop};
-ghost use Rattle.runoff.specs.Refusal.{first, testsBy, refusal};
+ghost use lib.ListN.{length};
+ghost use Rattle.card.specs.Profile.{profileAt};
+ghost use Rattle.card.specs.Reasons.{first, refusalBefore};
+ghost use Rattle.runoff.specs.Refusal.{methodTests, refusal};
 ghost use Rattle.runoff.specs.Runoff.{stagesOf, runoffOf, madeOf};
 ghost use Rattle.runoff.specs.Lines.{sectionBy};
 ghost use Rattle.runoff.specs.Table.{replyTo, tableAfter};
@@ -30,18 +29,6 @@ ghost use Rattle.runoff.specs.Climbing.{ClimbingTable};
 
 // How many numbers a row has in a table.
 pub const ROW_WIDTH: usize = 7;
-
-// A curve card, its eight numbers in the order of the paper: lengths in mm but the radius in metres, the slope in per mille.
-pub struct Card {
-    pub profile: u32,
-    pub terrain: u32,
-    pub radius: u32,
-    pub clothoid: u32,
-    pub full_slope: u32,
-    pub full_widening: u32,
-    pub step: u32,
-    pub unit: u32,
-}
 
 // How the outer slope turns: evenly, or in two stages whose joint is at num / den mm.
 pub enum Stages {
@@ -73,94 +60,38 @@ pub struct Reply {
     pub count: u32,
 }
 
-// The least length of a clothoid, in metres, by the radius in metres.
-pub fn least_length(radius: u32) -> u32
-    ensures { λ l. ⌜ l ≡ leastLength radius ⌝ }
-{
-    let mut before: u32 = 0;
-    let mut i: usize = 0;
-    while i < 20 {
-        let e = CLOTHOIDS[i];
-        let r = e.radius;
-        let l = e.length;
-        if radius == r {
-            return l;
-        }
-        if radius < r {
-            return longer(before, l);
-        }
-        before = l;
-        i += 1;
-    }
-    before
-}
-
 // 0 for an accepted card, else the number of the first of its own reasons, 1 to 10.
 pub fn check_card(card: Card) -> u32
     ensures { λ r. ⌜ r ≡ refusal card ⌝ }
 {
+    let before = check_before(card);
+    if before != 0 {
+        return before;
+    }
+    let own = check_section(card);
+    if own != 0 {
+        return own;
+    }
+    check_after(card)
+}
+
+// The reasons 7 and 8, of a card that those before let pass.
+fn check_section(card: Card) -> u32
+    requires { ⌜ refusalBefore card ≡ 0 ⌝ }
+    ensures { λ r. ⌜ r ≡ first (methodTests (profileAt (card .profile)) card) ⌝ }
+{
     let profile = card.profile;
     let terrain = card.terrain;
-    if is_outside(profile, 1, 5) {
-        return 1;
-    }
-    if is_neither(terrain, 1, 2) {
-        return 2;
-    }
-    let p = profile_at(profile);
-    check_curve(p, card)
-}
-
-// The reasons from 3 on, of a card with the profile p.
-fn check_curve(p: Profile, card: Card) -> u32
-    ensures { λ r. ⌜ r ≡ first (drop 2 (testsBy p card)) ⌝ }
-{
-    let radius = card.radius;
-    let clothoid = card.clothoid;
-    let slope = card.full_slope;
-    let least_radius = p.least_radius;
-    let crown = p.crown_slope;
-    if is_outside(radius, least_radius, 2000) {
-        return 3;
-    }
-    let least = least_length(radius);
-    let shortest = 1000 * least;
-    if is_outside(clothoid, shortest, 300000) {
-        return 4;
-    }
-    if is_outside(slope, crown, 60) {
-        return 5;
-    }
-    check_section(p, card)
-}
-
-// The reasons from 6 on, of a card that passes reason 5.
-fn check_section(p: Profile, card: Card) -> u32
-    requires { ⌜ (p .«crown_slope» ≤ card .«full_slope») × (card .«full_slope» ≤ 60) ⌝ }
-    ensures { λ r. ⌜ r ≡ first (drop 5 (testsBy p card)) ⌝ }
-{
-    let terrain = card.terrain;
-    let radius = card.radius;
     let clothoid = card.clothoid;
     let slope = card.full_slope;
     let widening = card.full_widening;
-    let step = card.step;
-    let unit = card.unit;
-    if is_too_wide(widening, radius) {
-        return 6;
-    }
+    let p = profile_at(profile);
     if is_too_narrow(p, widening) {
         return 7;
     }
     let added = added_slope(p, terrain);
     if is_too_steep(p, added, slope, clothoid) {
         return 8;
-    }
-    if is_outside(step, 1000, 20000) {
-        return 9;
-    }
-    if is_neither(unit, 1, 10) {
-        return 10;
     }
     0
 }
@@ -232,16 +163,20 @@ pub fn fill_table(card: Card, table: &mut [i32]) -> Reply
     if number != 0 {
         return Reply { number, count: 0 };
     }
-    let rows = row_count(card);
+    let clothoid = card.clothoid;
+    let step = card.step;
+    let rows = row_count(clothoid, step);
+    let count = rows as u32;
     let r = runoff_of(card);
     let room = table.len();
-    if room < ROW_WIDTH * rows {
+    let width = ROW_WIDTH as u32;
+    let short = check_room(width, count, room);
+    if short != 0 {
         return Reply {
-            number: 11,
+            number: short,
             count: 0,
         };
     }
     write_rows(card, r, rows, table);
-    let count = rows as u32;
     Reply { number: 0, count }
 }

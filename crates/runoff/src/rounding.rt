@@ -3,7 +3,7 @@ ghost use mathlib.Core.Path.{_≡_};
 ghost use Prim.Native.Nat.{_≤_, _<_};
 ghost use Rattle.exact.specs.Exact.{ratio};
 ghost use Rattle.exact.specs.Rounding.{floorDiv, rounded};
-ghost use Rattle.runoff.specs.Rows.{tie, inUnits};
+ghost use Rattle.card.specs.Rows.{tie, inUnits};
 ghost use Rattle.runoff.specs.Reckoning.{Roundable, Sized};
 
 // a / m rounded down. Below nought -1 - a is divided, so that each division is of a number that is not below nought.

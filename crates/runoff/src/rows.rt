@@ -1,10 +1,11 @@
 // The rows of a table: where they stand, their seven numbers, and how they are written.
-use crate::Card;
 use crate::ROW_WIDTH;
 use crate::Runoff;
 use crate::rounding::height;
 use crate::turning::Slopes;
 use crate::turning::slopes_at;
+use card::Card;
+use card::station_of;
 ghost use mathlib.Core.Path.{_≡_};
 ghost use mathlib.Core.List.{_++_};
 ghost use Prim.Native.Nat.{_*_, _≤_};
@@ -12,7 +13,8 @@ ghost use denote.Ref.{now};
 ghost use lib.ListN.{length, drop};
 ghost use Rattle.runoff.specs.Refusal.{refusal};
 ghost use Rattle.runoff.specs.Runoff.{runoffOf};
-ghost use Rattle.runoff.specs.Rows.{row, cells, rowCount, rowWidth, rows, stationOf, inUnits};
+ghost use Rattle.card.specs.Rows.{inUnits};
+ghost use Rattle.runoff.specs.Rows.{row, cells, rowCount, rowWidth, rows};
 ghost use Rattle.runoff.specs.Reckoning.{sectionIn, axisIn, Limits, Ready, innerSides, outerSides};
 
 // A row: the station in mm, the others in counts of the unit.
@@ -113,27 +115,6 @@ fn row_at(r: Runoff, d: u64, axis: i32, unit: u64) -> Row
     }
 }
 
-// How many rows the card has: the multiples of the step below L, and one at L.
-pub(crate) fn row_count(card: Card) -> usize
-    requires { ⌜ refusal card ≡ 0 ⌝ }
-    ensures { λ r. ⌜ r ≡ rowCount card ⌝ }
-{
-    let clothoid = card.clothoid as usize;
-    let step = card.step as usize;
-    (clothoid + (step - 1)) / step + 1
-}
-
-// The station of row i.
-fn station_of(card: Card, i: usize) -> u64
-    requires { ⌜ (refusal card ≡ 0) × (i ≤ rowCount card) ⌝ }
-    ensures { λ r. ⌜ r ≡ stationOf card i ⌝ }
-{
-    let clothoid = card.clothoid as u64;
-    let step = card.step as u64;
-    let d = (i as u64) * step;
-    if d < clothoid { d } else { clothoid }
-}
-
 // Writes a row over the seven numbers of a table that are lent for it.
 fn write_row(part: &mut [i32], row: Row)
     requires { ⌜ length (now part) ≡ rowWidth ⌝ }
@@ -162,10 +143,13 @@ pub(crate) fn write_rows(card: Card, r: Runoff, count: usize, table: &mut [i32])
     ensures { λ _. ⌜ now (table .exit) ≡ rows card ++ drop (rowWidth * rowCount card) (now (table .entry)) ⌝ }
 {
     let unit = card.unit as u64;
+    let clothoid = card.clothoid;
+    let step = card.step;
     let axis = axis_count(r, unit);
     let mut i: usize = 0;
     while i < count {
-        let d = station_of(card, i);
+        let place = i as u32;
+        let d = station_of(clothoid, step, place);
         let row = row_at(r, d, axis, unit);
         let at = ROW_WIDTH * i;
         let end = at + ROW_WIDTH;

@@ -7,7 +7,7 @@ use native.Mathlib.Omega.{arith}
 use lib.IntN.{ℤ, pos, negsuc}
 use lib.ListN.{length, take, drop, length-append}
 use lib.Seq.{take-at, drop-at, drop-drop}
-use Rattle.runoff.specs.declared.Card.{Card}
+use Rattle.card.specs.declared.Card.{Card}
 use Rattle.runoff.specs.Rows.{cells, rowOf, stationOf, rowWidth, joined}
 use Rattle.runoff.proofs.Joined.{length-joined}
 use Rattle.runoff.proofs.RowBlocks.{firstRows}

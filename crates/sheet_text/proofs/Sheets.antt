@@ -8,7 +8,7 @@ use lib.Dec.{eqb}
 use lib.IntN.{ℤ}
 use lib.ListN.{length, drop, length-append}
 use borrow.Author.Tests.{eqb-true, eqb-false, ne-eqb}
-use Rattle.runoff.specs.declared.Card.{Card}
+use Rattle.card.specs.declared.Card.{Card}
 use Rattle.runoff.specs.Rows.{rowCount, rowWidth, rows}
 use Rattle.runoff.specs.Refusal.{refusal}
 use Rattle.runoff.specs.Table.{replyTo, tableAfter}

@@ -7,7 +7,7 @@ use mathlib.Core.List.{List, [], _∷_, _++_}
 use lib.Dec.{eqb}
 use lib.IntN.{ℤ}
 use lib.ListN.{length}
-use Rattle.runoff.specs.declared.Card.{Card}
+use Rattle.card.specs.declared.Card.{Card}
 use Rattle.runoff.specs.Rows.{cells, rowOf, stationOf, rowCount}
 use Rattle.runoff.specs.Refusal.{refusal}
 use Rattle.runoff.specs.Table.{replyTo, tableAfter}

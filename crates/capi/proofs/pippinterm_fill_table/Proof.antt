@@ -5,7 +5,7 @@ use mathlib.Core.Path.{_≡_, ap, subst}
 use mathlib.Core.List.{List}
 use lib.IntN.{ℤ}
 use lib.ListN.{length}
-use Rattle.runoff.specs.declared.Card.{Card}
+use Rattle.card.specs.declared.Card.{Card}
 use Rattle.runoff.specs.declared.Reply.{Reply}
 use Rattle.runoff.specs.Table.{replyTo, tableAfter}
 use Rattle.runoff.specs.Climbing.{ClimbingTable}

@@ -1,72 +1,48 @@
--- `runoff::check_card` meets its contract. After each test that lets the card pass, `pastK` says that the refusal is what the reasons past K say.
+-- `runoff::check_card` meets its contract: the lists of reasons in their order.
 -- Assumes nothing.
-use mathlib.Core.Path.{sym, _∙_}
-use mathlib.Core.List.{List}
-use Prim.Native.Nat.{ℕ, suc-le-suc}
-use lib.ListN.{drop}
+use mathlib.Core.Path.{_≡_, sym, _∙_}
 use borrow.Author.Needs.{needs}
-use Rattle.runoff.specs.Refusal.{Test, first, ownTests, refusal}
-use Rattle.runoff.proofs.Steps.{Says, at-start, passed, refused}
-use Rattle.runoff.proofs.Unmet.{not-outside}
+use Rattle.card.specs.Reasons.{refusalBefore}
+use Rattle.card.proofs.Tests.{then-first}
+use Rattle.runoff.proofs.Accepts.{in-order}
 use Rattle.runoff.proofs.check_card.Statement.{statement}
 use Rattle.runoff.proofs.check_card.Tie as tie
 
-abbrev tests : tie.Start → List Test
-tests s = ownTests (s .args .card)
+-- past the first list, none of its reasons is met
+none-before : (c : tie.Else1) → refusalBefore (c .before .before .args .card) ≡ 0
+none-before c = sym (c .before .check-before .ensures) ∙ c .if1 .left
 
--- the reasons say what those past the k-th say
-abbrev Past : ℕ → tie.Start → Type 0
-Past k s = Says (first (tests s)) (drop k (tests s))
-
-abbrev start1 : tie.Else1 → tie.Start
-start1 c = c .before .before
-
-abbrev start2 : tie.Else2 → tie.Start
-start2 c = start1 (c .before .before)
-
-past0 : (s : tie.Start) → Past 0 s
-past0 s = at-start (tests s)
-
-past1 : (c : tie.Else1) → Past 1 (start1 c)
-past1 c = passed (past0 (c .before .before)) (c .before .is-outside .ensures) (c .if1 .left)
-
-past2 : (c : tie.Else2) → Past 2 (start2 c)
-past2 c = passed (past1 (c .before .before)) (c .before .is-neither .ensures) (c .if2 .left)
-
-is-outside-requires : tie.Need-is-outside-requires
-is-outside-requires c κs = search needs
+check-before-requires : tie.Need-check-before-requires
+check-before-requires c κs = search needs
 
 returns : tie.Need-returns
-unfolding refusal
-returns c = refused (past0 (c .before .before)) (c .before .is-outside .ensures) (c .if1 .taken)
+returns c =
+    let is = c .before .check-before .ensures in
+    is ∙ sym (in-order _ ∙ then-first _ _ (λ z. c .if1 .taken (is ∙ z)))
 
-is-neither-requires : tie.Need-is-neither-requires
-is-neither-requires c κs = search needs
+check-section-requires : tie.Need-check-section-requires
+check-section-requires c κs = none-before c
 
 returns-2 : tie.Need-returns-2
-unfolding refusal
-returns-2 c = refused (past1 (c .before .before)) (c .before .is-neither .ensures) (c .if2 .taken)
+returns-2 c =
+    let is = c .before .check-section .ensures in
+    is ∙ sym (in-order _ ∙ rw (none-before (c .before .before)) (then-first _ _ (λ z. c .if2 .taken (is ∙ z))))
 
-profile-at-requires : tie.Need-profile-at-requires
-profile-at-requires c κs =
-    let inside = not-outside _ 1 5 .0 (sym (c .before .before .before .is-outside .ensures) ∙ c .before .before .if1 .left) in
-    (inside .0, suc-le-suc (inside .1))
-
-check-curve-requires : tie.Need-check-curve-requires
-check-curve-requires c κs = search needs
+check-after-requires : tie.Need-check-after-requires
+check-after-requires c κs = search needs
 
 returns-3 : tie.Need-returns-3
-unfolding refusal
-returns-3 c = (rw (c .before .profile-at .ensures) at (c .check-curve .ensures)) ∙ sym (past2 (c .before .before) .says)
+returns-3 c =
+    let past = c .before .before in
+    c .check-after .ensures ∙ sym (in-order _ ∙ rw (none-before (past .before), sym (past .check-section .ensures) ∙ c .before .if2 .left))
 
 pub check-card-spec : {M : Type 1} → statement M
 check-card-spec =
     tie.close
     (tie.spec
-    is-outside-requires
+    check-before-requires
     returns
-    is-neither-requires
+    check-section-requires
     returns-2
-    profile-at-requires
-    check-curve-requires
+    check-after-requires
     returns-3)

@@ -1,98 +1,73 @@
--- `runoff::check_section` meets its contract. After each test that lets the card pass, `pastK` says that the reasons from 6 on are those past K.
+-- `runoff::check_section` meets its contract.
 -- Assumes nothing.
-use mathlib.Core.Path.{sym}
+use mathlib.Core.Path.{_≡_, sym}
+use mathlib.Core.Bool.{Bool}
 use mathlib.Core.List.{List}
-use Prim.Native.Nat.{ℕ}
 use lib.ListN.{drop}
 use borrow.Author.Needs.{needs}
-use Rattle.runoff.specs.Refusal.{Test, first, testsBy}
-use Rattle.runoff.proofs.Steps.{Says, at-start, passed, refused}
+use Rattle.card.specs.Profile.{profileAt, addedSlope}
+use Rattle.card.specs.Reasons.{Test, first}
+use Rattle.card.proofs.Steps.{Says, at-start, passed, refused}
+use Rattle.card.proofs.Accepts.{passed-before}
+use Rattle.runoff.specs.Refusal.{tooSteep, methodTests}
 use Rattle.runoff.proofs.check_section.Statement.{statement}
 use Rattle.runoff.proofs.check_section.Tie as tie
 
 abbrev tests : tie.Start → List Test
-tests s = testsBy (s .args .p) (s .args .card)
+tests s = methodTests (profileAt (s .args .card .profile)) (s .args .card)
 
--- the reasons from 6 on say what those past the k-th say
-abbrev Past : ℕ → tie.Start → Type 0
-Past k s = Says (first (drop 5 (tests s))) (drop k (tests s))
+abbrev start : tie.Else1 → tie.Start
+start c = c .before .before .before
 
-abbrev start6 : tie.Else1 → tie.Start
-start6 c = c .before .before
+abbrev tooSteepOf : tie.Start → Bool
+tooSteepOf s =
+    let card = s .args .card in
+    let r = profileAt (card .profile) in
+    tooSteep r (addedSlope r (card .terrain)) (card .«full_slope») (card .clothoid)
 
-abbrev start7 : tie.Else2 → tie.Start
-start7 c = start6 (c .before .before)
+-- the widening leaves the shoulder its least width
+past7 : (c : tie.Else1) → Says (first (tests (start c))) (drop 1 (tests (start c)))
+past7 c = passed (at-start (tests (start c))) (rw (c .before .before .profile-at .ensures) at (c .before .is-too-narrow .ensures)) (c .if1 .left)
 
-abbrev start8 : tie.Else3 → tie.Start
-start8 c = start7 (c .before .before .before)
-
-abbrev start9 : tie.Else4 → tie.Start
-start9 c = start8 (c .before .before)
-
-past5 : (s : tie.Start) → Past 5 s
-past5 s = at-start (drop 5 (tests s))
-
-past6 : (c : tie.Else1) → Past 6 (start6 c)
-past6 c = passed (past5 (c .before .before)) (c .before .is-too-wide .ensures) (c .if1 .left)
-
-past7 : (c : tie.Else2) → Past 7 (start7 c)
-past7 c = passed (past6 (c .before .before)) (c .before .is-too-narrow .ensures) (c .if2 .left)
-
-past8 : (c : tie.Else3) → Past 8 (start8 c)
-past8 c = passed (past7 (c .before .before .before)) (rw (c .before .before .added-slope .ensures) at (c .before .is-too-steep .ensures)) (c .if3 .left)
-
-past9 : (c : tie.Else4) → Past 9 (start9 c)
-past9 c = passed (past8 (c .before .before)) (c .before .is-outside .ensures) (c .if4 .left)
-
-is-too-wide-requires : tie.Need-is-too-wide-requires
-is-too-wide-requires c κs = search needs
-
-returns : tie.Need-returns
-returns c = refused (past5 (c .before .before)) (c .before .is-too-wide .ensures) (c .if1 .taken)
+profile-at-requires : tie.Need-profile-at-requires
+profile-at-requires c κs = search needs
 
 is-too-narrow-requires : tie.Need-is-too-narrow-requires
 is-too-narrow-requires c κs = search needs
 
-returns-2 : tie.Need-returns-2
-returns-2 c = refused (past6 (c .before .before)) (c .before .is-too-narrow .ensures) (c .if2 .taken)
+returns : tie.Need-returns
+returns c =
+    refused (at-start (tests (c .before .before .before))) (rw (c .before .before .profile-at .ensures) at (c .before .is-too-narrow .ensures)) (c .if1 .taken)
 
 added-slope-requires : tie.Need-added-slope-requires
 added-slope-requires c κs = search needs
 
 is-too-steep-requires : tie.Need-is-too-steep-requires
-is-too-steep-requires c κs = search needs
+is-too-steep-requires c κs =
+    let s = c .before .before .before in
+    let a = passed-before _ (s .before .pre) in
+    (rw (s .profile-at .ensures) (a .slope-least), a .slope-most)
+
+-- the test of the added slope, of the card's own profile
+steep : (c : tie.After-is-too-steep) → c .is-too-steep .result ≡ tooSteepOf (start (c .before .before))
+steep c =
+    let else1 = c .before .before in
+    rw (c .before .added-slope .ensures, else1 .before .before .profile-at .ensures) at (c .is-too-steep .ensures)
+
+returns-2 : tie.Need-returns-2
+returns-2 c = refused (past7 (c .before .before .before)) (steep (c .before)) (c .if2 .taken)
 
 returns-3 : tie.Need-returns-3
-returns-3 c = refused (past7 (c .before .before .before)) (rw (c .before .before .added-slope .ensures) at (c .before .is-too-steep .ensures)) (c .if3 .taken)
-
-is-outside-requires : tie.Need-is-outside-requires
-is-outside-requires c κs = search needs
-
-returns-4 : tie.Need-returns-4
-returns-4 c = refused (past8 (c .before .before)) (c .before .is-outside .ensures) (c .if4 .taken)
-
-is-neither-requires : tie.Need-is-neither-requires
-is-neither-requires c κs = search needs
-
-returns-5 : tie.Need-returns-5
-returns-5 c = refused (past9 (c .before .before)) (c .before .is-neither .ensures) (c .if5 .taken)
-
-returns-6 : tie.Need-returns-6
-returns-6 c = sym (passed (past9 (c .before .before)) (c .before .is-neither .ensures) (c .if5 .left) .says)
+returns-3 c = sym (passed (past7 (c .before .before .before)) (steep (c .before)) (c .if2 .left) .says)
 
 pub check-section-spec : {M : Type 1} → statement M
 check-section-spec =
     tie.close
     (tie.spec
-    is-too-wide-requires
-    returns
+    profile-at-requires
     is-too-narrow-requires
-    returns-2
+    returns
     added-slope-requires
     is-too-steep-requires
-    returns-3
-    is-outside-requires
-    returns-4
-    is-neither-requires
-    returns-5
-    returns-6)
+    returns-2
+    returns-3)

@@ -3,7 +3,7 @@
 use mathlib.Core.Path.{_≡_, sym, ap, _∙_}
 use borrow.Author.Needs.{needs}
 use borrow.Author.Tests.{ne-eqb}
-use Rattle.runoff.specs.declared.Card.{Card}
+use Rattle.card.specs.declared.Card.{Card}
 use Rattle.runoff.specs.declared.Made.the-variants.{Accepted, Refused}
 use Rattle.runoff.specs.Refusal.{refusal}
 use Rattle.runoff.specs.Runoff.{runoffOf, madeOf}

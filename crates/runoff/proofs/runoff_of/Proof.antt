@@ -1,6 +1,5 @@
 -- `runoff::runoff_of` meets its contract.
 -- Assumes nothing.
-use Prim.Native.Nat.{suc-le-suc}
 use borrow.Author.Needs.{needs}
 use Rattle.runoff.specs.Runoff.{runoffOf}
 use Rattle.runoff.proofs.Accepts.{accepted, sizes-of}
@@ -8,9 +7,7 @@ use Rattle.runoff.proofs.runoff_of.Statement.{statement}
 use Rattle.runoff.proofs.runoff_of.Tie as tie
 
 profile-at-requires : tie.Need-profile-at-requires
-profile-at-requires c κs =
-    let a = accepted _ (c .pre) in
-    (a .profile-least, suc-le-suc (a .profile-most))
+profile-at-requires c κs = search needs
 
 cast-half-width : tie.Need-cast-half-width
 cast-half-width c = search needs
@@ -38,7 +35,7 @@ stages-of-requires c κs =
     let start = c .before .before .before .before .before .before .before in
     let is = start .profile-at .ensures in
     let s = sizes-of _ (start .before .pre) in
-    (rw is (s .half-most), rw is (s .crown-most), accepted _ (start .before .pre) .slope-most)
+    (rw is (s .half-most), rw is (s .crown-most), accepted _ (start .before .pre) .before .slope-most)
 
 returns : tie.Need-returns
 unfolding runoffOf

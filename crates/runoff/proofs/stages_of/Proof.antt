@@ -8,7 +8,7 @@ use Rattle.runoff.specs.declared.Stages.the-variants.{Even, TwoStage}
 use Rattle.runoff.specs.Lines.{Section, sectionBy, jointNum, jointDen}
 use Rattle.runoff.specs.Runoff.{stagesOf}
 use Rattle.runoff.proofs.Slopes.{is-even, not-even}
-use Rattle.runoff.proofs.Product.{product-below}
+use Rattle.card.proofs.Product.{product-below}
 use Rattle.runoff.proofs.stages_of.Statement.{statement}
 use Rattle.runoff.proofs.stages_of.Tie as tie
 

@@ -5,7 +5,7 @@ use mathlib.Core.List.{List}
 use Prim.Native.Nat.{ℕ}
 use lib.ListN.{length}
 use borrow.Author.Needs.{needs}
-use Rattle.runoff.specs.declared.Card.{Card}
+use Rattle.card.specs.declared.Card.{Card}
 use Rattle.runoff.specs.Table.{replyTo, tableAfter}
 use Rattle.book.specs.Cards.{nameIn}
 use Rattle.sheet_text.specs.Buffer.{writtenOf, bufferAfter}

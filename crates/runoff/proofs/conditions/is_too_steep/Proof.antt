@@ -2,7 +2,7 @@
 -- Assumes nothing.
 use native.Mathlib.Omega.{arith}
 use borrow.Author.Needs.{needs}
-use Rattle.runoff.proofs.Product.{product-below}
+use Rattle.card.proofs.Product.{product-below}
 use Rattle.runoff.proofs.conditions.is_too_steep.Statement.{statement}
 use Rattle.runoff.proofs.conditions.is_too_steep.Tie as tie
 

@@ -13,7 +13,7 @@ use Rattle.exact.specs.Rounding.{floorDiv, rounded}
 use Rattle.exact.proofs.Integers.{ints, add-parts, sub-parts, mul-parts, abs-parts}
 use Rattle.exact.proofs.Machine.{within-sfits, back, fits-as, nat-back}
 use Rattle.exact.proofs.Rounded.{rounded-size}
-use Rattle.runoff.specs.Rows.{tie as tieRule}
+use Rattle.card.specs.Rows.{tie as tieRule}
 use Rattle.runoff.proofs.rounding.nearest.Statement.{statement}
 use Rattle.runoff.proofs.rounding.nearest.Tie as tie
 

@@ -14,7 +14,7 @@ use mir.Facts.{toZ-ofZ}
 use denote.Ref.{now}
 use borrow.Author.Needs.{needs}
 use Rattle.runoff.specs.Rows.{cells}
-use Rattle.runoff.proofs.Joined.{sets-all}
+use Rattle.card.proofs.Joined.{sets-all}
 use Rattle.runoff.proofs.rows.write_row.Statement.{statement}
 use Rattle.runoff.proofs.rows.write_row.Tie as tie
 

@@ -10,34 +10,43 @@ use denote.Ref.{now}
 use borrow.Author.Needs.{needs}
 use mir.Facts.{toZ-ofZ}
 use borrow.Rule.Slice.PartMut.{putMid}
-use Rattle.runoff.specs.declared.Card.{Card}
+use Rattle.card.specs.declared.Card.{Card}
+use Rattle.card.specs.Rows.{stationTo, joined}
 use Rattle.runoff.specs.declared.Runoff.{Runoff}
-use Rattle.runoff.specs.Rows.{row, cells, rowOf, rowCount, rowWidth, stationOf, joined}
+use Rattle.runoff.specs.Rows.{row, cells, rowCount, rowWidth, stationOf, rows}
 use Rattle.runoff.specs.Runoff.{runoffOf}
 use Rattle.runoff.specs.Reckoning.{sectionIn}
-use Rattle.runoff.proofs.RowBlocks.{firstRows, next-row, all-rows}
-use Rattle.runoff.proofs.RowPlaces.{station-most}
-use Rattle.runoff.proofs.Accepts.{unit-in}
+use Rattle.card.proofs.RowPlaces.{station-most}
+use Rattle.card.proofs.Joined.{next}
+use Rattle.runoff.proofs.Accepts.{unit-of, accepted-rule}
 use Rattle.runoff.proofs.Limits.{same-section, limits-of}
 use Rattle.runoff.proofs.rows.write_rows.Statement.{statement}
 use Rattle.runoff.proofs.rows.write_rows.Tie as tie
 
-record Going (card : Card) (count : ℕ) (old table : List ℤ) (i : ℕ) : Type 0 where
+-- the numbers of row i, as they are reckoned
+abbrev block : Runoff → ℕ → ℕ → ℕ → ℕ → List ℤ
+block r unit end step i = cells (row (sectionIn r) unit (stationTo end step i))
+
+record Going (r : Runoff) (unit end step count : ℕ) (old table : List ℤ) (i : ℕ) : Type 0 where
   most : i ≤ count
   long : length table ≡ length old
-  so-far : table ≡ firstRows card i ++ drop (rowWidth * i) old
+  so-far : table ≡ joined (block r unit end step) i ++ drop (rowWidth * i) old
 
 abbrev Inv-loop : tie.InvT-loop
-Inv-loop card r count table₀ unit axis i₀ table i = Going card count table₀ table i
+Inv-loop r count table₀ unit clothoid step axis i₀ table i = Going r unit clothoid step count table₀ table i
 
 abbrev μ-loop : tie.MeasureT-loop
-μ-loop card r count table₀ unit axis i₀ table i = count - i
+μ-loop r count table₀ unit clothoid step axis i₀ table i = count - i
 
--- the row that is reckoned, of the runoff r at the station d, is row i of the card
-row-is :
-    (card : Card) (i : ℕ) {r : Runoff} {d : ℕ} → r ≡ runoffOf card → d ≡ stationOf card i →
-    row (sectionIn r) (card .unit) d ≡ rowOf card (stationOf card i)
-row-is card i is at = ap₂ (λ x e. row x (card .unit) e) (ap sectionIn is ∙ same-section card) at
+-- all rows that are reckoned, of the card's runoff, are the rows of the card
+all-reckoned : (card : Card) {r : Runoff} → r ≡ runoffOf card → joined (block r (card .unit) (card .clothoid) (card .step)) (rowCount card) ≡ rows card
+unfolding rows
+all-reckoned card is =
+    ap (λ x. joined (λ (i : ℕ). cells (row x (card .unit) (stationOf card i))) (rowCount card)) (ap sectionIn is ∙ same-section card)
+
+-- at most 301 rows
+few : (s : tie.Start Inv-loop μ-loop) → s .args .count ≤ 301
+few s = rw (s .pre .1 .0) (accepted-rule (s .args .card) .few (s .pre .0 .0))
 
 cast-unit : tie.Need-cast-unit Inv-loop μ-loop
 cast-unit c = search needs
@@ -46,19 +55,22 @@ axis-count-requires : tie.Need-axis-count-requires Inv-loop μ-loop
 axis-count-requires c κs =
     let card = c .before .args .card in
     let passes = c .before .pre .0 .0 in
-    let unit = unit-in card passes in
+    let unit = unit-of card passes in
     (rw (c .before .pre .0 .1) (limits-of card passes), unit .0, unit .1)
 
 loop-holds : tie.Need-loop-holds Inv-loop μ-loop
 unfolding joined
 loop-holds c = record { most = omega arith; long = refl; so-far = refl }
 
+cast-place : tie.Need-cast-place Inv-loop μ-loop
+cast-place c = omega (arith, few (c .before .before .before .before))
+
 station-of-requires : tie.Need-station-of-requires Inv-loop μ-loop
-station-of-requires c κs = (c .before .before .before .before .pre .0 .0, omega arith)
+station-of-requires c κs = search needs
 
 on : (card : Card) (i : ℕ) → stationOf card i ≤ runoffOf card .clothoid
 unfolding runoffOf
-on card i = station-most card i
+on card i = station-most (card .clothoid) (card .step) i
 
 row-at-requires : tie.Need-row-at-requires Inv-loop μ-loop
 row-at-requires c κs =
@@ -66,7 +78,7 @@ row-at-requires c κs =
     let card = start .args .card in
     let passes = start .pre .0 .0 in
     let is = start .pre .0 .1 in
-    let unit = unit-in card passes in
+    let unit = unit-of card passes in
     let axis = c .before .before .before .axis-count in
     ((rw is (limits-of card passes), rw (c .station-of .ensures, is) (on card _), unit .0, unit .1), toZ-ofZ (record { sfits = axis .ok }) ∙ axis .ensures)
 
@@ -101,15 +113,15 @@ loop-again : tie.Need-loop-again Inv-loop μ-loop
 loop-again c =
     let at-loop = c .before .before .before .before .before .before in
     let start = at-loop .before .before .before in
-    let card = start .args .card in
     let i = at-loop .loop .i in
     let station = c .before .before .before .before .station-of .ensures in
-    let reckoned = c .before .before .before .row-at .ensures ∙ row-is card i (start .pre .0 .1) station in
+    let reckoned = c .before .before .before .row-at .ensures ∙ ap (row (sectionIn (start .args .r)) (start .args .card .unit)) station in
     let wrote = c .before .write-row .ensures ∙ ap cells reckoned in
     record {
       most = omega arith;
       long = c .table .given .1 ∙ at-loop .loop .inv .long;
-      so-far = ap₂ (λ t x. putMid (rowWidth * i) (rowWidth * i + rowWidth - rowWidth * i) t x) (at-loop .loop .inv .so-far) wrote ∙ next-row card i (now (start .args .table));
+      so-far = ap₂ (λ t x. putMid (rowWidth * i) (rowWidth * i + rowWidth - rowWidth * i) t x) (at-loop .loop .inv .so-far) wrote
+          ∙ next (block (start .args .r) (start .args .card .unit) (start .args .card .clothoid) (start .args .card .step)) rowWidth (λ j. refl) i (now (start .args .table));
     }
 
 same-length : tie.Need-same-length Inv-loop μ-loop
@@ -120,7 +132,7 @@ returns c =
     let at-loop = c .before in
     let start = at-loop .before .before .before in
     let done : at-loop .loop .i ≡ rowCount (start .args .card) = omega (arith, start .pre .1 .0) in
-    at-loop .loop .inv .so-far ∙ rw (done, all-rows)
+    at-loop .loop .inv .so-far ∙ rw (done, all-reckoned (start .args .card) (start .pre .0 .1))
 
 pub write-rows-spec : {M : Type 1} → statement M
 write-rows-spec =
@@ -131,6 +143,7 @@ write-rows-spec =
     cast-unit
     axis-count-requires
     loop-holds
+    cast-place
     station-of-requires
     row-at-requires
     mul-at

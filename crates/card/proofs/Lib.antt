@@ -1,0 +1,12 @@
+pub mod Product
+pub mod Every
+pub mod Steps
+pub mod Tests
+pub mod Clothoids
+pub mod Unmet
+pub mod Entries
+pub mod RowPlaces
+pub mod Accepts
+pub mod Joined
+pub mod AccurateNumbers
+pub mod SharedBoundaries

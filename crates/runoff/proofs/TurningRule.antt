@@ -15,7 +15,7 @@ use Rattle.runoff.specs.Lines.{Section, isEven, jointNum, outerSlope, in
 use Rattle.runoff.specs.Turning.{Turning, TurningTheorem}
 use Rattle.runoff.proofs.Slopes.{even?, joint-is, even-is, first-is, second-is}
 use Rattle.runoff.proofs.Heights.{inner-slope, shoulder-slope, inner-brow}
-use Rattle.runoff.proofs.EdgePieces.{joint-before, firstPiece, on-first}
+use Rattle.runoff.proofs.EdgePieces.{joint-before, joint-on, firstPiece, on-first}
 use Rattle.runoff.proofs.ExactClimb.{ClimbPremises}
 use Rattle.runoff.proofs.ClimbingRule.{premises, narrow}
 use Rattle.runoff.proofs.Proper.{proper}
@@ -59,6 +59,7 @@ module _ {added : ℕ} {x : Section} (ok : ClimbPremises added x) where
         fractions = λ s on. proper ok narrow on;
         starts = starts (even? x);
         ends = ends (even? x);
+        joint-on = λ e. joint-on (two e) (ok .turned);
         at-joint = λ e. is-eq (first-is x (joint-is x) (two e) (ok .wide) (omega arith)) (is-one (x .p)) (omega arith);
         first-stage = λ e s t a b i j. piece-exactly 3 {p = firstPiece x} refl (on-first (two e) a (ok .wide) i) (on-first (two e) b (ok .wide) j);
         datum = datum steeper (even? x);

@@ -10,7 +10,7 @@ use lib.IntN.{ℤ, pos, negsuc, natAbs, _*ℤ_}
 use Rattle.exact.specs.Exact.{Exact, frac, whole, minus, ratio, _⊕_, _⊖_, _⊗_, _⊘_, _≼_, _≺_, _≈_, atMost, greater}
 use Rattle.exact.specs.Parts.{up, dn, Is}
 use Rattle.exact.proofs.Ring.{ring}
-use Rattle.exact.proofs.Integers.{sub-parts, mul-parts, neg-up, neg-dn, abs-parts}
+use Rattle.exact.proofs.Integers.{sub-parts, mul-parts, neg-up, neg-dn, abs-parts, is-pos}
 use Rattle.exact.proofs.Order.{above, below, left, right, le-out, le-in, lt-out, lt-in, eq-in, at-most-yes, at-most-no, clash}
 use Rattle.exact.proofs.Sums.{sum-parts, difference-parts}
 
@@ -205,6 +205,16 @@ module _ {x y : Exact} {a b d a′ b′ d′ : ℕ} (f : Is x a b d) (g : Is y a
       go : (t : Bool) → (t ≡ true → x ≼ y) → t ≡ false
       go true k = absurd (no (le-is (k refl)))
       go false k = refl
+
+-- ---- stations
+-- what is not below nought is a natural number over another
+pub station-is : {s : Exact} → 0 < s .den → whole 0 ≼ s → Is s (above s) 0 (s .den)
+station-is {s} h from =
+    let less : below s ≡ 0 = ap dn (is-pos (s .num) (omega (arith, le-out from))) in
+    is-net (is-self s h) (omega arith)
+
+pub whole-le : (d e : ℕ) → d ≤ e → whole d ≼ whole e
+whole-le d e h = is-le (is-one d) (is-one e) (omega arith)
 
 -- ---- the greater of a whole number n and of x
 pub is-floor : {x : Exact} {a b d : ℕ} (n : ℕ) → Is x a b d → Is (greater (whole n) x) (max (n * d) (a - b)) 0 d

@@ -8,5 +8,7 @@ pub mod Floor
 pub mod Rounded
 pub mod Is
 pub mod Climb
+pub mod Pieces
 pub mod Apart
+pub mod RoundedClimb
 pub mod Through

@@ -1,3 +1,4 @@
 pub mod Exact
 pub mod Parts
 pub mod Rounding
+pub mod Tabled

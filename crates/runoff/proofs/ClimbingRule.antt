@@ -13,8 +13,9 @@ use Rattle.runoff.specs.Climbing.{TabledAt, ClimbingRule, ClimbingTheore
 use Rattle.runoff.specs.Accuracy.{AccurateRow, AccuracyTheorem}
 use Rattle.runoff.proofs.Accepts.{unit-of, accepted-rule}
 use Rattle.card.proofs.RowPlaces.{station-most, station-rises}
+use Rattle.runoff.proofs.EdgePieces.{on-whole}
 use Rattle.runoff.proofs.ExactClimb.{ClimbPremises, climbs}
-use Rattle.runoff.proofs.TabledClimb.{on-whole, tabled}
+use Rattle.runoff.proofs.TabledClimb.{tabled}
 use Rattle.runoff.proofs.Proper.{proper}
 
 module _ (card : Card) (passes : refusal card ≡ 0) where

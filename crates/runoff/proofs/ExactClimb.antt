@@ -1,22 +1,20 @@
 -- The climbing rule on exact heights, for an even and for a two-stage runoff.
 -- Assumes nothing.
-use mathlib.Core.Path.{_≡_, ap, subst, subst⁻¹}
+use mathlib.Core.Path.{_≡_, ap, subst}
 use mathlib.Core.Logic.{_⊎_, inl, inr}
 use Prim.Native.Nat.{ℕ, _+_, _*_, _-_, _≤_, _<_}
-use native.Mathlib.Nat.{mul-le-mul-right, mul-pos, mul-add}
+use native.Mathlib.Nat.{mul-pos, mul-le-mul}
 use native.Mathlib.Decide.{ℕ-discrete}
 use native.Mathlib.Omega.{arith}
 use Rattle.exact.specs.Exact.{Exact, whole, _≼_, _≺_, _≈_}
 use Rattle.exact.proofs.Ring.{times-zero}
-use Rattle.exact.proofs.Integers.{is-pos}
-use Rattle.exact.proofs.Order.{above, below, le-out, ≼-refl, ≼-trans, ≺-≼-trans, ≼-≺-trans, ≼-antisym, ≺→≼, ≈→≼, ≈-sym, clash, ask}
-use Rattle.exact.specs.Parts.{dn, Is}
-use Rattle.exact.proofs.Is.{is-self, is-one, is-net, is-le, le-is}
-use Rattle.exact.proofs.Climb.{Climb, climb-trans, gently, OnPiece, piece-climbs, piece-higher, piece-level}
-use Rattle.runoff.specs.Lines.{Section, On, joint, jointNum, outerEdge, firstReached}
+use Rattle.exact.proofs.Order.{≼-trans, ≼-antisym, ≺→≼, clash, ask}
+use Rattle.exact.proofs.Climb.{Climb}
+use Rattle.exact.proofs.Pieces.{Piece, Gently, only-same, Glued, glued-proper, glued-climbs, glued-higher-before, glued-higher, glued-gentle, glued-level, glued-same}
+use Rattle.runoff.specs.Lines.{Section, On, joint, outerEdge, firstReached}
 use Rattle.runoff.specs.Climbing.{Level, Climbs}
-use Rattle.runoff.proofs.Slopes.{is-even, not-even, even?, joint-is}
-use Rattle.runoff.proofs.EdgePieces.{on-even, on-first, on-second}
+use Rattle.runoff.proofs.Slopes.{is-even, not-even, even?}
+use Rattle.runoff.proofs.EdgePieces.{on-whole, evenPiece, firstPiece, rest, gain, secondPiece, on-even, joint-on, on-first, on-second}
 
 -- what the proof uses of an accepted card
 pub record ClimbPremises (added : ℕ) (x : Section) : Type 0 where
@@ -35,120 +33,92 @@ reached-two : (x : Section) → x .h * (x .p + x .v) < 3 * x .L → firstReached
 unfolding firstReached
 reached-two x e = rw (not-even x e)
 
--- a station is a natural number over another
-pub station-is : {x : Section} {s : Exact} → On x s → Is s (above s) 0 (s .den)
-station-is {s = s} on =
-    let none : below s ≡ 0 = ap dn (is-pos (s .num) (omega (arith, le-out (on .from)))) in
-    is-net (is-self s (on .fraction)) (omega arith)
+-- with plain numbers: past the joint the edge climbs at less than 3‰
+slower : (h p v d L : ℕ) → v ≡ p + d → h * (p + v) < 3 * L → h * d < 3 * L - 2 * h * p
+slower h p v d L e two = omega (arith, ap (λ (n : ℕ). h * n) e)
 
--- what is to be shown of two stations of a runoff of either kind
-record Rule (added : ℕ) (x : Section) (s t : Exact) : Type 0 where
-  weak : s ≼ t → Climb added s (outerEdge x s) t (outerEdge x t)
-  strict : s ≺ t → ¬ Level x s t → outerEdge x s ≺ outerEdge x t
-  level : Level x s t → outerEdge x s ≼ outerEdge x t
-  proper : 0 < outerEdge x s .den
+-- what is to be shown of a runoff of either kind: two pieces, which meet where the full slope is first reached
+record Rule (added : ℕ) (x : Section) : Type 0 where
+  p : Piece
+  q : Piece
+  glued : Glued added (On x) (outerEdge x) (firstReached x) p q
+  strict : (s t : Exact) → On x s → On x t → s ≺ t → ¬ Level x s t → outerEdge x s ≺ outerEdge x t
+  level : (s t : Exact) → On x s → On x t → Level x s t → outerEdge x s ≼ outerEdge x t
 
 module _ {added : ℕ} {x : Section} (ok : ClimbPremises added x) where
-  -- even: one piece
-  even-rule : 3 * x .L ≤ x .h * (x .p + x .v) → {s t : Exact} → On x s → On x t → Rule added x s t
-  even-rule e {s} {t} a b =
+  -- even: one piece, which stands for both
+  even-rule : 3 * x .L ≤ x .h * (x .p + x .v) → Rule added x
+  even-rule e =
       record {
-        weak = weak;
-        strict = λ h _. piece-higher (ok .long) (on a) (on b) climbs h;
-        level = λ l. weak (≼-trans (omega arith) (a .to) (subst (λ (r : Exact). r ≼ t) (reached-even x e) (l .second))) .rises;
-        proper = on a .is .proper;
+        p = evenPiece x;
+        q = evenPiece x;
+        glued = glued;
+        strict = λ s t a b h _. glued-higher glued s t a b climbs climbs h;
+        level = λ s t a b l. glued-climbs glued s t a b (≼-trans (omega arith) (a .to) (subst (λ (r : Exact). r ≼ t) (reached-even x e) (l .second))) .rises;
       }
     where
-      on : {u : Exact} → On x u → OnPiece (x .c * x .q * x .L) (x .h * (x .p + x .v)) (x .L) u (outerEdge x u)
-      on k = on-even x (station-is k) (ok .long) e
+      gentle : Gently added (evenPiece x)
+      gentle = record { some = ok .long; gentle = ok .gentle }
+
+      glued : Glued added (On x) (outerEdge x) (firstReached x) (evenPiece x) (evenPiece x)
+      glued =
+          rw (reached-even x e)
+          (record {
+            fraction = λ s a. a .fraction;
+            joint = on-whole x (x .L) (omega arith);
+            first = gentle;
+            second = gentle;
+            before = λ s a _. on-even a (ok .long) e;
+            past = λ s a _. on-even a (ok .long) e;
+          })
 
       climbs : 0 < x .h * (x .p + x .v)
       climbs = omega (arith, mul-pos (ok .wide) (ok .crowned))
 
-      weak : s ≼ t → Climb added s (outerEdge x s) t (outerEdge x t)
-      weak = piece-climbs (ok .long) (on a) (on b) (ok .gentle)
-
-  -- two-stage: a piece up to the joint, and one from there
-  module _ (two : x .h * (x .p + x .v) < 3 * x .L) (d m : ℕ) (dv : x .v ≡ x .p + d) (el : 3 * x .L ≡ jointNum x + x .h * d + m) (mp : 0 < m) where
-    at-joint : On x (joint x)
-    at-joint = record { fraction = omega arith; from = is-le (is-one 0) (joint-is x) (omega arith); to = is-le (joint-is x) (is-one (x .L)) (omega arith) }
-
-    steep : 0 < x .h * d + m
-    steep = omega arith
-
-    before : {u : Exact} → On x u → u ≼ joint x → OnPiece (x .c * x .q) 3 1 u (outerEdge x u)
-    before k h = on-first x (station-is k) two (ok .wide) (omega (arith, le-is (station-is k) (joint-is x) h))
-
-    past : {u : Exact} → On x u → joint x ≼ u → OnPiece (x .c * x .q * (x .h * d + m) + jointNum x * m) (3 * (x .h * d)) (x .h * d + m) u (outerEdge x u)
-    past k h = on-second x (station-is k) two (ok .wide) d m dv el mp (omega (arith, le-is (joint-is x) (station-is k) h))
-
-    first-climbs : {u w : Exact} → On x u → On x w → w ≼ joint x → u ≼ w → Climb added u (outerEdge x u) w (outerEdge x w)
-    first-climbs a b j h = piece-climbs (omega arith) (before a (≼-trans (b .fraction) h j)) (before b j) (omega (arith, ok .steep)) h
-
-    second-climbs : {u w : Exact} → On x u → On x w → joint x ≼ u → u ≼ w → Climb added u (outerEdge x u) w (outerEdge x w)
-    second-climbs a b j h =
-        piece-climbs steep (past a j) (past b (≼-trans (a .fraction) j h)) (omega (arith, mul-le-mul-right (x .h * d) (ok .steep))) h
-
-    first-higher : {u w : Exact} → On x u → On x w → w ≼ joint x → u ≺ w → outerEdge x u ≺ outerEdge x w
-    first-higher a b j h = piece-higher (omega arith) (before a (≼-trans (b .fraction) (≺→≼ h) j)) (before b j) (omega arith) h
-
-    second-higher : 0 < d → {u w : Exact} → On x u → On x w → joint x ≼ u → u ≺ w → outerEdge x u ≺ outerEdge x w
-    second-higher dp a b j h =
-        piece-higher steep (past a j) (past b (≼-trans (a .fraction) j (≺→≼ h))) (omega (arith, mul-pos (ok .wide) dp)) h
-
-    two-rule : {s t : Exact} → On x s → On x t → Rule added x s t
-    two-rule {s} {t} a b =
-        record {
-          weak = weak (ask t (joint x)) (ask s (joint x));
-          strict = λ h n. elim (ℕ-discrete d 0) [ yes z ↦ strict-level z h n (ask t (joint x)) (ask (joint x) s) | no z ↦ strict (omega arith) h (ask t (joint x)) (ask s (joint x)) ];
-          level = λ l. piece-level steep (past a (from (l .first))) (past b (from (l .second))) (flat (omega (arith, l .same)));
-          proper = proper (ask s (joint x));
-        }
-      where
-        self : joint x ≼ joint x
-        self = ≼-refl (joint x)
-
-        proper : (s ≼ joint x) ⊎ (joint x ≺ s) → 0 < outerEdge x s .den
-        proper (inl i) = before a i .is .proper
-        proper (inr i) = past a (≺→≼ i) .is .proper
-
-        from : {u : Exact} → firstReached x ≼ u → joint x ≼ u
-        from {u} h = subst (λ (r : Exact). r ≼ u) (reached-two x two) h
-
-        to : {u : Exact} → joint x ≼ u → firstReached x ≼ u
-        to {u} h = subst⁻¹ (λ (r : Exact). r ≼ u) (reached-two x two) h
-
-        flat : d ≡ 0 → 3 * (x .h * d) ≡ 0
-        flat z = rw (z, times-zero)
-
-        weak : (t ≼ joint x) ⊎ (joint x ≺ t) → (s ≼ joint x) ⊎ (joint x ≺ s) → s ≼ t → Climb added s (outerEdge x s) t (outerEdge x t)
-        weak (inl j) _ h = first-climbs a b j h
-        weak (inr j) (inl i) h =
-            climb-trans (omega arith) (before at-joint self .is .proper) (first-climbs a at-joint self i) (second-climbs at-joint b self (≺→≼ j))
-        weak (inr j) (inr i) h = second-climbs a b (≺→≼ i) h
-
-        strict : 0 < d → s ≺ t → (t ≼ joint x) ⊎ (joint x ≺ t) → (s ≼ joint x) ⊎ (joint x ≺ s) → outerEdge x s ≺ outerEdge x t
-        strict dp h (inl j) _ = first-higher a b j h
-        strict dp h (inr j) (inl i) = ≼-≺-trans (before a i .is .proper) (first-climbs a at-joint self i .rises) (second-higher dp at-joint b self j)
-        strict dp h (inr j) (inr i) = second-higher dp a b (≺→≼ i) h
-
-        strict-level : d ≡ 0 → s ≺ t → ¬ Level x s t → (t ≼ joint x) ⊎ (joint x ≺ t) → (joint x ≼ s) ⊎ (s ≺ joint x) → outerEdge x s ≺ outerEdge x t
-        strict-level z h n _ (inl i) = absurd (n (record { same = omega arith; first = to i; second = to (≼-trans (a .fraction) i (≺→≼ h)) }))
-        strict-level z h n (inl j) (inr i) = first-higher a b j h
-        strict-level z h n (inr j) (inr i) =
-            ≺-≼-trans (past b (≺→≼ j) .is .proper) (first-higher a at-joint self i) (second-climbs at-joint b self (≺→≼ j) .rises)
-
-  rule : {s t : Exact} → On x s → On x t → Rule added x s t
-  rule {s} {t} a b = go (even? x)
+  -- two-stage: a piece up to the joint, and one from there, which is level where the full slope is the crown slope
+  two-rule : x .h * (x .p + x .v) < 3 * x .L → Rule added x
+  two-rule two =
+      record {
+        p = firstPiece x;
+        q = secondPiece x;
+        glued = glued;
+        strict = λ s t a b h n. strict s t a b h n (ℕ-discrete (x .v) (x .p)) (ask (firstReached x) s);
+        level = λ s t a b l. glued-level glued s t a b (flat (l .same)) (l .first) (l .second);
+      }
     where
-      dv : x .v ≡ x .p + (x .v - x .p)
-      dv = omega (arith, ok .turned)
+      less : x .h * gain x < rest x
+      less = slower (x .h) (x .p) (x .v) (gain x) (x .L) (omega (arith, ok .turned)) two
 
-      go : Dec (3 * x .L ≤ x .h * (x .p + x .v)) → Rule added x s t
-      go (yes e) = even-rule e a b
-      go (no e) =
-          two-rule (omega arith) (x .v - x .p) (3 * x .L - x .h * (x .p + x .v)) dv
-          (omega (arith, simp mul-add at (ap (λ (n : ℕ). x .h * n) dv))) (omega arith) a b
+      glued : Glued added (On x) (outerEdge x) (firstReached x) (firstPiece x) (secondPiece x)
+      glued =
+          rw (reached-two x two)
+          (record {
+            fraction = λ s a. a .fraction;
+            joint = joint-on two (ok .turned);
+            first = record { some = omega arith; gentle = omega (arith, ok .steep) };
+            second = record { some = omega (arith, less); gentle = mul-le-mul (ok .steep) (omega (arith, less)) };
+            before = λ s a i. on-first two a (ok .wide) i;
+            past = λ s a i. on-second two a (ok .wide) (ok .turned) i;
+          })
+
+      flat : x .v ≡ x .p → 3 * (x .h * gain x) ≡ 0
+      flat z =
+          let none : gain x ≡ 0 = omega arith in
+          rw (none, times-zero)
+
+      strict : (s t : Exact) → On x s → On x t → s ≺ t → ¬ Level x s t → Dec (x .v ≡ x .p) → (firstReached x ≼ s) ⊎ (s ≺ firstReached x) → outerEdge x s ≺ outerEdge x t
+      strict s t a b h n (no z) _ =
+          let gained : 0 < gain x = omega (arith, ok .turned) in
+          glued-higher glued s t a b (omega arith) (mul-pos (omega arith) (mul-pos (ok .wide) gained)) h
+      strict s t a b h n (yes z) (inl i) = absurd (n (record { same = omega arith; first = i; second = ≼-trans (a .fraction) i (≺→≼ h) }))
+      strict s t a b h n (yes z) (inr k) = glued-higher-before glued s t a b (omega arith) k h
+
+  rule : Rule added x
+  rule = go (even? x)
+    where
+      go : Dec (3 * x .L ≤ x .h * (x .p + x .v)) → Rule added x
+      go (yes e) = even-rule e
+      go (no e) = two-rule (omega arith)
 
 level? : (x : Section) (s t : Exact) → Dec (Level x s t)
 level? x s t = go (ℕ-discrete (x .v) (x .p)) (ask (firstReached x) s) (ask (firstReached x) t)
@@ -163,31 +133,24 @@ turn : {x : Section} {s t : Exact} → Level x s t → Level x t s
 turn l = record { same = l .same; first = l .second; second = l .first }
 
 -- the climbing rule
-pub climbs : {added : ℕ} {x : Section} {s t : Exact} → ClimbPremises added x → On x s → On x t → Climbs added x s t
-climbs {added} {x} {s} {t} ok a b =
-    record {
-      fractions = (there .proper, here .proper);
-      equal = (λ e. only e (ask s t) (ask t s) (level? x s t), if-so);
-      higher = there .strict;
-      gentle = λ h. gently (a .fraction) (there .proper) (b .fraction) (here .proper) (there .weak h);
-    }
-  where
-    there : Rule added x s t
-    there = rule ok a b
+module _ {added : ℕ} {x : Section} {s t : Exact} (ok : ClimbPremises added x) (a : On x s) (b : On x t) where
+  -- the farther station is not the lower, nor higher by more than the added slope times the way
+  pub edge-climb : s ≼ t → Climb added s (outerEdge x s) t (outerEdge x t)
+  edge-climb = glued-climbs (rule ok .glued) s t a b
 
-    here : Rule added x t s
-    here = rule ok b a
+  only : outerEdge x s ≈ outerEdge x t → Dec (Level x s t) → (s ≈ t) ⊎ Level x s t
+  only e (yes l) = inr l
+  only e (no n) = inl (only-same (λ h. rule ok .strict s t a b h n) (λ h. rule ok .strict t s b a h (λ l. n (turn l))) e)
 
-    only : outerEdge x s ≈ outerEdge x t → (s ≼ t) ⊎ (t ≺ s) → (t ≼ s) ⊎ (s ≺ t) → Dec (Level x s t) → (s ≈ t) ⊎ Level x s t
-    only e i j (yes l) = inr l
-    only e (inl i) (inl j) (no n) = inl (≼-antisym i j)
-    only e (inl i) (inr j) (no n) = absurd (clash (there .strict j n) (≈→≼ (≈-sym e)))
-    only e (inr i) j (no n) = absurd (clash (here .strict i (λ l. n (turn l))) (≈→≼ e))
+  if-so : (s ≈ t) ⊎ Level x s t → outerEdge x s ≈ outerEdge x t
+  if-so (inl e) = glued-same (rule ok .glued) s t a b e
+  if-so (inr l) = ≼-antisym (rule ok .level s t a b l) (rule ok .level t s b a (turn l))
 
-    if-so : (s ≈ t) ⊎ Level x s t → outerEdge x s ≈ outerEdge x t
-    if-so (inl e) = ≼-antisym (there .weak (≈→≼ e) .rises) (here .weak (≈→≼ (≈-sym e)) .rises)
-    if-so (inr l) = ≼-antisym (there .level l) (here .level (turn l))
-
--- the farther station is not the lower
-pub rises : {added : ℕ} {x : Section} {s t : Exact} → ClimbPremises added x → On x s → On x t → s ≼ t → outerEdge x s ≼ outerEdge x t
-rises ok a b h = rule ok a b .weak h .rises
+  pub climbs : Climbs added x s t
+  climbs =
+      record {
+        fractions = (glued-proper (rule ok .glued) s a, glued-proper (rule ok .glued) t b);
+        equal = (λ e. only e (level? x s t), if-so);
+        higher = rule ok .strict s t a b;
+        gentle = glued-gentle (rule ok .glued) s t a b;
+      }

@@ -1,17 +1,18 @@
 -- Every line of a runoff is a fraction over a number above 0 at each of its stations.
 -- Assumes nothing.
 use Prim.Native.Nat.{ℕ, _+_, _*_, _≤_}
-use native.Mathlib.Nat.{mul-le-mul, mul-le-mul-left}
+use native.Mathlib.Nat.{mul-le-mul}
 use native.Mathlib.Decide.{decLe}
 use native.Mathlib.Omega.{arith}
 use Rattle.exact.specs.Exact.{Exact}
 use Rattle.exact.proofs.Order.{above}
 use Rattle.exact.specs.Parts.{Is}
-use Rattle.exact.proofs.Is.{is-one, le-is}
+use Rattle.exact.proofs.Is.{is-one, le-is, station-is}
 use Rattle.runoff.specs.Lines.{Section, On, jointNum, outerSlope, Fractions}
 use Rattle.runoff.proofs.Slopes.{even?, even-is, first-is, second-is}
 use Rattle.runoff.proofs.Heights.{outer-edge, outer-brow, inner-slope, shoulder-slope, widening-is, inner-shoulder, inner-edge, inner-brow}
-use Rattle.runoff.proofs.ExactClimb.{ClimbPremises, station-is}
+use Rattle.runoff.proofs.EdgePieces.{joint-before}
+use Rattle.runoff.proofs.ExactClimb.{ClimbPremises}
 
 -- the outer slope is (m − n)/e, for some natural numbers
 record Slope (x : Section) (s : Exact) : Type 0 where
@@ -27,17 +28,16 @@ slope-at : {added : ℕ} {x : Section} {s : Exact} → ClimbPremises added x →
 slope-at {x = x} {s} ok on = go (even? x) (decLe (3 * above s) (jointNum x * s .den))
   where
     at : Is s (above s) 0 (s .den)
-    at = station-is on
+    at = station-is (on .fraction) (on .from)
 
     go : Dec (3 * x .L ≤ x .h * (x .p + x .v)) → Dec (3 * above s ≤ jointNum x * s .den) → Slope x s
     go (yes t) _ = slope (even-is x at (ok .long) t)
     go (no t) (yes j) = slope (first-is x at (omega arith) (ok .wide) j)
-    go (no t) (no j) =
-        slope (second-is x at (omega arith) (ok .turned) (omega (arith, mul-le-mul-left (x .h) (ok .turned))) (omega arith))
+    go (no t) (no j) = slope (second-is x at (omega arith) (ok .turned) (joint-before x (omega arith) (ok .turned)) (omega arith))
 
 pub proper : {added : ℕ} {x : Section} {s : Exact} → ClimbPremises added x → x .W ≤ x .c → On x s → Fractions x s
 proper {x = x} {s} ok narrow on =
-    let at = station-is on in
+    let at = station-is (on .fraction) (on .from) in
     let f = slope-at ok on .is in
     let inner = inner-slope x s f in
     let shoulder = shoulder-slope x s inner in

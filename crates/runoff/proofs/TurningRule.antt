@@ -1,29 +1,25 @@
 -- The outer slope turns as the paper words it, the outer edge climbs at 3‰ up to the joint, and heights count from the inner brow at 0.
 -- Assumes nothing.
-use mathlib.Core.Path.{_≡_, ap}
+use mathlib.Core.Path.{_≡_, refl, ap}
 use mathlib.Core.Bool.{false}
 use Prim.Native.Nat.{ℕ, _+_, _*_, _-_, _≤_, _<_}
-use native.Mathlib.Nat.{mul-le-mul-left, mul-le-mul-right, sub-zero}
+use native.Mathlib.Nat.{mul-le-mul-right, sub-zero}
 use native.Mathlib.Omega.{arith}
 use borrow.Author.Tests.{leb-false}
-use Rattle.exact.specs.Exact.{Exact, whole, minus, _⊖_, _⊗_, _≼_, _≈_}
+use Rattle.exact.specs.Exact.{whole, minus, _≈_}
 use Rattle.exact.proofs.Ring.{ring}
 use Rattle.exact.specs.Parts.{Is}
-use Rattle.exact.proofs.Is.{is-one, is-minus, is-net, is-times, is-diff, is-eq, le-is}
-use Rattle.exact.proofs.Climb.{OnPiece}
-use Rattle.runoff.specs.Lines.{Section, On, isEven, joint, jointNum, outerSlope, outerEdge, innerBrow}
+use Rattle.exact.proofs.Is.{is-one, is-minus, is-net, is-eq}
+use Rattle.exact.proofs.Pieces.{piece-exactly}
+use Rattle.runoff.specs.Lines.{Section, isEven, jointNum, outerSlope, innerBrow}
 use Rattle.runoff.specs.Turning.{Turning, TurningTheorem}
 use Rattle.runoff.proofs.Slopes.{even?, joint-is, even-is, first-is, second-is}
 use Rattle.runoff.proofs.Heights.{inner-slope, shoulder-slope, inner-brow}
-use Rattle.runoff.proofs.EdgePieces.{on-first}
-use Rattle.runoff.proofs.ExactClimb.{ClimbPremises, station-is}
+use Rattle.runoff.proofs.EdgePieces.{joint-before, joint-on, firstPiece, on-first}
+use Rattle.runoff.proofs.ExactClimb.{ClimbPremises}
 use Rattle.runoff.proofs.ClimbingRule.{premises, narrow}
 use Rattle.runoff.proofs.Proper.{proper}
 use Rattle.runoff.proofs.Accepts.{accepted-rule}
-
--- two heights on a piece that climbs at 3‰
-three : {α : ℕ} {s t X Y : Exact} → OnPiece α 3 1 s X → OnPiece α 3 1 t Y → Y ⊖ X ≈ whole 3 ⊗ (t ⊖ s)
-three f g = is-eq (is-diff (g .is) (f .is)) (is-times 3 (is-diff (g .at) (f .at))) (simp ring (omega arith))
 
 module _ {added : ℕ} {x : Section} (ok : ClimbPremises added x) where
   two : isEven x ≡ false → x .h * (x .p + x .v) < 3 * x .L
@@ -36,7 +32,7 @@ module _ {added : ℕ} {x : Section} (ok : ClimbPremises added x) where
   ends : Dec (3 * x .L ≤ x .h * (x .p + x .v)) → outerSlope x (whole (x .L)) ≈ whole (x .v)
   ends (yes e) = is-eq (even-is x (is-one (x .L)) (ok .long) e) (is-one (x .v)) (omega arith)
   ends (no e) =
-      let run : jointNum x < 3 * x .L = omega (arith, mul-le-mul-left (x .h) (ok .turned)) in
+      let run : jointNum x < 3 * x .L = joint-before x (omega arith) (ok .turned) in
       is-eq (second-is x (is-one (x .L)) (omega arith) (ok .turned) run (omega arith)) (is-one (x .v)) (whole-turn (x .p) (x .v) (3 * x .L - jointNum x) _ (ok .turned) (omega arith))
     where
       -- p, and v − p more over the whole of what is left
@@ -63,13 +59,11 @@ module _ {added : ℕ} {x : Section} (ok : ClimbPremises added x) where
         fractions = λ s on. proper ok narrow on;
         starts = starts (even? x);
         ends = ends (even? x);
+        joint-on = λ e. joint-on (two e) (ok .turned);
         at-joint = λ e. is-eq (first-is x (joint-is x) (two e) (ok .wide) (omega arith)) (is-one (x .p)) (omega arith);
-        first-stage = λ e s t a b i j. three (on a e i) (on b e j);
+        first-stage = λ e s t a b i j. piece-exactly 3 {p = firstPiece x} refl (on-first (two e) a (ok .wide) i) (on-first (two e) b (ok .wide) j);
         datum = datum steeper (even? x);
       }
-    where
-      on : {u : Exact} → On x u → isEven x ≡ false → u ≼ joint x → OnPiece (x .c * x .q) 3 1 u (outerEdge x u)
-      on k e i = on-first x (station-is k) (two e) (ok .wide) (omega (arith, le-is (station-is k) (joint-is x) i))
 
 pub turning-rule : TurningTheorem
 turning-rule card passes = turning (premises card passes) (narrow card passes) (accepted-rule card .sizes passes .side-least)

@@ -6,9 +6,8 @@ use mathlib.Core.Logic.{_↔_, _⊎_}
 use Prim.Native.Nat.{ℕ, _+_, _*_, _≤_, _<_}
 use lib.IntN.{ℤ, pos}
 use lib.ListN.{length, getD}
-use lib.Signed.{_≤ℤ_}
-use Rattle.exact.specs.Exact.{Exact, frac, whole, _⊕_, _⊖_, _⊗_, _≼_, _≺_, _≈_, distance}
-use Rattle.exact.specs.Rounding.{units}
+use Rattle.exact.specs.Exact.{Exact, whole, _⊖_, _⊗_, _≼_, _≺_, _≈_}
+use Rattle.exact.specs.Tabled.{TabledClimb}
 use Rattle.card.specs.declared.Card.{Card}
 use Rattle.card.specs.Profile.{addedOf}
 use Rattle.runoff.specs.Lines.{Section, sectionOf, On, outerEdge, firstReached}
@@ -29,18 +28,10 @@ pub record Climbs (added : ℕ) (x : Section) (s t : Exact) : Type 0 where
   pub higher : s ≺ t → ¬ Level x s t → outerEdge x s ≺ outerEdge x t
   pub gentle : s ≼ t → outerEdge x t ⊖ outerEdge x s ≼ whole added ⊗ (t ⊖ s)
 
--- a tabled outer-edge height is, in micrometres, 1000 × unit × the outer-edge number of a row
-abbrev pub tabledHeight : ℕ → ℤ → Exact
-tabledHeight unit n = units (1000 * unit) n
-
--- the tabled heights n at d and k at e, d not past e: each within half a unit of the exact one at its station;
+-- the tabled heights, 1000 × unit × n micrometres at d and 1000 × unit × k at e, d not past e: each within half a unit of the exact one at its station;
 -- the later not lower than the earlier, nor higher by more than one unit plus the added slope times the distance
-pub record Tabled (added unit : ℕ) (x : Section) (d e : ℕ) (n k : ℤ) : Type 0 where
-  pub fractions : (0 < outerEdge x (whole d) .den) × (0 < outerEdge x (whole e) .den)
-  pub earlier : distance (outerEdge x (whole d)) (tabledHeight unit n) ≼ frac (1000 * unit) 2
-  pub later : distance (outerEdge x (whole e)) (tabledHeight unit k) ≼ frac (1000 * unit) 2
-  pub order : n ≤ℤ k
-  pub gentle : tabledHeight unit k ⊖ tabledHeight unit n ≼ whole (1000 * unit) ⊕ whole added ⊗ (whole e ⊖ whole d)
+abbrev pub Tabled : ℕ → ℕ → Section → ℕ → ℕ → ℤ → ℤ → Type 0
+Tabled added unit x d e n k = TabledClimb added (1000 * unit) (outerEdge x (whole d)) (outerEdge x (whole e)) d e n k
 
 -- the outer-edge numbers n at d and k at e of a card
 abbrev pub TabledOf : Card → ℕ → ℕ → ℤ → ℤ → Type 0

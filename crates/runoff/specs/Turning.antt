@@ -12,6 +12,8 @@ pub record Turning (x : Section) : Type 0 where
   pub fractions : (s : Exact) → On x s → Fractions x s
   pub starts : outerSlope x (whole 0) ≈ minus (x .p)
   pub ends : outerSlope x (whole (x .L)) ≈ whole (x .v)
+  -- the joint is one of the stations
+  pub joint-on : isEven x ≡ false → On x (joint x)
   pub at-joint : isEven x ≡ false → outerSlope x (joint x) ≈ whole (x .p)
   pub first-stage :
       isEven x ≡ false → (s t : Exact) → On x s → On x t → s ≼ joint x → t ≼ joint x →

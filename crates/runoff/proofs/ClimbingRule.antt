@@ -1,4 +1,4 @@
--- Demand 3, the climbing rule, and the accuracy rule, of every card that none of its own reasons refuses.
+-- Demand 3, the climbing rule, the accuracy rule and the turning of the lines, of every card that none of its own reasons refuses.
 -- Assumes nothing.
 use mathlib.Core.Path.{_≡_, refl}
 use Prim.Native.Nat.{ℕ, _*_, _≤_, _<_}
@@ -6,17 +6,20 @@ use native.Mathlib.Omega.{arith}
 use Rattle.card.specs.declared.Card.{Card}
 use Rattle.card.specs.Profile.{addedOf}
 use Rattle.card.proofs.AccurateNumbers.{accurate}
-use Rattle.runoff.specs.Lines.{sectionOf, axis}
+use Rattle.section.specs.Lines.{sectionOf, axis}
 use Rattle.runoff.specs.Rows.{stationOf, row}
 use Rattle.runoff.specs.Refusal.{refusal}
 use Rattle.runoff.specs.Climbing.{TabledAt, ClimbingRule, ClimbingTheorem}
+use Rattle.runoff.specs.Turning.{TurningTheorem}
 use Rattle.runoff.specs.Accuracy.{AccurateRow, AccuracyTheorem}
 use Rattle.runoff.proofs.Accepts.{unit-of, accepted-rule}
 use Rattle.card.proofs.RowPlaces.{station-most, station-rises}
-use Rattle.runoff.proofs.EdgePieces.{on-whole}
-use Rattle.runoff.proofs.ExactClimb.{ClimbPremises, climbs}
-use Rattle.runoff.proofs.TabledClimb.{tabled}
-use Rattle.runoff.proofs.Proper.{proper}
+use Rattle.section.proofs.EdgePieces.{on-whole}
+use Rattle.section.specs.Climbing.{ClimbPremises}
+use Rattle.section.proofs.ExactClimb.{climbs}
+use Rattle.section.proofs.TurningRule.{turns}
+use Rattle.section.proofs.TabledClimb.{tabled}
+use Rattle.section.proofs.Proper.{proper}
 
 module _ (card : Card) (passes : refusal card ≡ 0) where
   pub premises : ClimbPremises (addedOf card) (sectionOf card)
@@ -37,12 +40,12 @@ module _ (card : Card) (passes : refusal card ≡ 0) where
 
   at-stations : (d e : ℕ) → d ≤ e → e ≤ card .clothoid → TabledAt card d e
   unfolding row
-  at-stations = tabled premises (card .unit) unit-some
+  at-stations = tabled (addedOf card) (sectionOf card) premises (card .unit) unit-some
 
   climbs-so : ClimbingRule card
   climbs-so =
       record {
-        exact = λ s t a b. climbs premises a b;
+        exact = climbs (addedOf card) (sectionOf card) premises;
         tabled = at-stations;
         rows = λ i j h. at-stations (stationOf card i) (stationOf card j) (station-rises (card .clothoid) (card .step) i j h) (station-most (card .clothoid) (card .step) j);
       }
@@ -70,3 +73,6 @@ climbing-rule = climbs-so
 
 pub accuracy-rule : AccuracyTheorem
 accuracy-rule = accurate-row
+
+pub turning-rule : TurningTheorem
+turning-rule card passes = turns (addedOf card) (sectionOf card) (premises card passes) (narrow card passes) (accepted-rule card .sizes passes .side-least)

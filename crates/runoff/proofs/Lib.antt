@@ -1,11 +1,5 @@
 pub mod Accepts
 pub mod MadeNumber
-pub mod Slopes
-pub mod Heights
-pub mod EdgePieces
-pub mod ExactClimb
-pub mod Proper
-pub mod TabledClimb
 pub mod ClimbingRule
 pub mod RowBlocks
 pub mod Limits
@@ -14,5 +8,4 @@ pub mod Replies
 pub mod StationSlopes
 pub mod RowLines
 pub mod Fields
-pub mod TurningRule
 pub mod StarredReadings

@@ -4,7 +4,7 @@ use mathlib.Core.Path.{_≡_, refl}
 use native.Mathlib.Omega.{arith}
 use Rattle.card.specs.declared.Card.{Card}
 use Rattle.runoff.specs.Refusal.{refusal}
-use Rattle.runoff.specs.Lines.{sectionOf}
+use Rattle.section.specs.Lines.{sectionOf}
 use Rattle.runoff.specs.Runoff.{runoffOf}
 use Rattle.runoff.specs.Reckoning.{sectionIn, Limits}
 use Rattle.runoff.proofs.Accepts.{accepted-rule}

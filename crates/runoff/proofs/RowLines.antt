@@ -11,10 +11,10 @@ use Rattle.exact.proofs.Rounded.{rounding-laws}
 use Rattle.card.specs.Rows.{tie, inUnits}
 use Rattle.runoff.specs.declared.Runoff.{Runoff}
 use Rattle.runoff.specs.declared.turning.Slopes.{Slopes}
-use Rattle.runoff.specs.Lines.{Section, axisHeight, widening, outerEdge, outerBrow, innerEdge, innerBrow}
+use Rattle.section.specs.Lines.{Section, axisHeight, widening, outerEdge, outerBrow, innerEdge, innerBrow}
 use Rattle.runoff.specs.Reckoning.{sectionIn, axisIn, Limits, Ready, Sized}
 use Rattle.runoff.proofs.StationSlopes.{shoulder-rise, crown-rise}
-use Rattle.runoff.proofs.Heights.{outer-edge, outer-brow, inner-edge, inner-brow, widening-is}
+use Rattle.section.proofs.Heights.{outer-edge, outer-brow, inner-edge, inner-brow, widening-is}
 
 -- x is (a − b)/d, which can be rounded to units of u mm
 pub record Line (x : Exact) (a b d u : ℕ) : Type 0 where

@@ -10,7 +10,7 @@ use Rattle.card.specs.Profile.{profiles, profileAt}
 use Rattle.card.specs.Clothoid.{clothoids, leastLength}
 use Rattle.card.specs.Rows.{joined}
 use Rattle.card.specs.Reasons.{Test, first}
-use Rattle.runoff.specs.Lines.{outerSlope, outerEdge, outerBrow, innerSlope, widening, innerEdge, innerShoulder, shoulderSlope, innerBrow}
+use Rattle.section.specs.Lines.{outerSlope, outerEdge, outerBrow, innerSlope, widening, innerEdge, innerShoulder, shoulderSlope, innerBrow}
 use Rattle.runoff.specs.Rows.{row, rows}
 use Rattle.card.specs.declared.Card.{Card}
 use Rattle.runoff.specs.Refusal.{ownTests, refusal}

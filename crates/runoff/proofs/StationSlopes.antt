@@ -9,10 +9,10 @@ use Rattle.exact.proofs.Is.{is-one, is-as}
 use Rattle.runoff.specs.declared.Runoff.{Runoff}
 use Rattle.runoff.specs.declared.turning.Slope.{Slope}
 use Rattle.runoff.specs.declared.turning.Slopes.{Slopes}
-use Rattle.runoff.specs.Lines.{Section, axisHeight, outerSlope}
+use Rattle.section.specs.Lines.{Section, axisHeight, outerSlope}
 use Rattle.runoff.specs.Reckoning.{sectionIn, Limits, SlopeIs, SlopesAt}
-use Rattle.runoff.proofs.Slopes.{even-is, first-is, second-is}
-use Rattle.runoff.proofs.Heights.{inner-slope, shoulder-slope}
+use Rattle.section.proofs.Slopes.{even-is, first-is, second-is}
+use Rattle.section.proofs.Heights.{inner-slope, shoulder-slope}
 
 module _ (r : Runoff) (d : ℕ) (z : Limits r) (on : d ≤ r .clothoid) where
   abbrev x : Section

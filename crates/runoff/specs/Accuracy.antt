@@ -6,7 +6,7 @@ use lib.IntN.{pos}
 use Rattle.exact.specs.Exact.{whole, _⊗_}
 use Rattle.card.specs.declared.Card.{Card}
 use Rattle.card.specs.Rows.{Accurate}
-use Rattle.runoff.specs.Lines.{sectionOf, axis, widening, innerBrow, innerEdge, outerEdge, outerBrow}
+use Rattle.section.specs.Lines.{sectionOf, axis, widening, innerBrow, innerEdge, outerEdge, outerBrow}
 use Rattle.runoff.specs.Rows.{rowOf}
 use Rattle.runoff.specs.Refusal.{refusal}
 

@@ -2,36 +2,16 @@
 -- Assumes nothing.
 use mathlib.Core.Path.{_≡_}
 use mathlib.Core.List.{List}
-use mathlib.Core.Logic.{_↔_, _⊎_}
 use Prim.Native.Nat.{ℕ, _+_, _*_, _≤_, _<_}
 use lib.IntN.{ℤ, pos}
 use lib.ListN.{length, getD}
-use Rattle.exact.specs.Exact.{Exact, whole, _⊖_, _⊗_, _≼_, _≺_, _≈_}
-use Rattle.exact.specs.Tabled.{TabledClimb}
+use Rattle.exact.specs.Exact.{Exact}
 use Rattle.card.specs.declared.Card.{Card}
 use Rattle.card.specs.Profile.{addedOf}
-use Rattle.runoff.specs.Lines.{Section, sectionOf, On, outerEdge, firstReached}
+use Rattle.section.specs.Lines.{sectionOf, On}
+use Rattle.section.specs.Climbing.{Climbs, Tabled}
 use Rattle.runoff.specs.Rows.{stationOf, rowWidth, rowOf}
 use Rattle.runoff.specs.Refusal.{refusal}
-
--- the full slope equals the crown slope and both stations are at or past the point where it is first reached
-pub record Level (x : Section) (s t : Exact) : Type 0 where
-  pub same : x .v ≡ x .p
-  pub first : firstReached x ≼ s
-  pub second : firstReached x ≼ t
-
--- the two exact outer-edge heights are fractions over numbers above 0; they are equal exactly when the stations are equal, or when the edge is level at both;
--- otherwise the farther is higher, by at most the added slope times the distance
-pub record Climbs (added : ℕ) (x : Section) (s t : Exact) : Type 0 where
-  pub fractions : (0 < outerEdge x s .den) × (0 < outerEdge x t .den)
-  pub equal : (outerEdge x s ≈ outerEdge x t) ↔ ((s ≈ t) ⊎ Level x s t)
-  pub higher : s ≺ t → ¬ Level x s t → outerEdge x s ≺ outerEdge x t
-  pub gentle : s ≼ t → outerEdge x t ⊖ outerEdge x s ≼ whole added ⊗ (t ⊖ s)
-
--- the tabled heights, 1000 × unit × n micrometres at d and 1000 × unit × k at e, d not past e: each within half a unit of the exact one at its station;
--- the later not lower than the earlier, nor higher by more than one unit plus the added slope times the distance
-abbrev pub Tabled : ℕ → ℕ → Section → ℕ → ℕ → ℤ → ℤ → Type 0
-Tabled added unit x d e n k = TabledClimb added (1000 * unit) (outerEdge x (whole d)) (outerEdge x (whole e)) d e n k
 
 -- the outer-edge numbers n at d and k at e of a card
 abbrev pub TabledOf : Card → ℕ → ℕ → ℤ → ℤ → Type 0

@@ -1,4 +1,3 @@
-pub mod Lines
 pub mod Rows
 pub mod Refusal
 pub mod Table

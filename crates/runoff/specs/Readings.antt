@@ -11,7 +11,7 @@ use Rattle.card.specs.declared.Card.{Card}
 use Rattle.card.specs.Card.{card}
 use Rattle.card.specs.Clothoid.{leastLength}
 use Rattle.card.specs.Reasons.{Test, first}
-use Rattle.runoff.specs.Lines.{sectionOf, isEven}
+use Rattle.section.specs.Lines.{sectionOf, isEven}
 use Rattle.runoff.specs.Rows.{rowOf, rows}
 use Rattle.runoff.specs.Refusal.{ownTests, refusal}
 use Rattle.runoff.specs.Table.{replyTo}

@@ -10,7 +10,7 @@ use Rattle.runoff.specs.declared.Runoff.{Runoff}
 use Rattle.runoff.specs.declared.turning.Slope.{Slope}
 use Rattle.runoff.specs.declared.turning.Slopes.{Slopes}
 use Rattle.runoff.specs.declared.rows.Sides.{Sides}
-use Rattle.runoff.specs.Lines.{Section, axis, axisHeight, outerSlope, innerSlope, shoulderSlope, innerBrow, innerEdge, outerEdge, outerBrow}
+use Rattle.section.specs.Lines.{Section, axis, axisHeight, outerSlope, innerSlope, shoulderSlope, innerBrow, innerEdge, outerEdge, outerBrow}
 use Rattle.runoff.specs.Runoff.{stagesOf}
 
 -- the section of a runoff as the code holds it

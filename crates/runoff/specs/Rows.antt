@@ -7,7 +7,7 @@ use Rattle.exact.specs.Exact.{whole, _⊗_}
 use Rattle.card.specs.declared.Card.{Card}
 use Rattle.card.specs.Rows.{rowsTo, stationTo, inUnits, joined}
 use Rattle.runoff.specs.declared.rows.Row.{Row}
-use Rattle.runoff.specs.Lines.{Section, sectionOf, axis, widening, innerBrow, innerEdge, outerEdge, outerBrow}
+use Rattle.section.specs.Lines.{Section, sectionOf, axis, widening, innerBrow, innerEdge, outerEdge, outerBrow}
 
 -- how many rows a card has, and the station of row i
 abbrev pub rowCount : Card → ℕ

@@ -10,7 +10,7 @@ use Rattle.runoff.specs.declared.Stages.the-variants.{Even, TwoStage}
 use Rattle.runoff.specs.declared.Runoff.{Runoff}
 use Rattle.runoff.specs.declared.Made.{Made}
 use Rattle.runoff.specs.declared.Made.the-variants.{Accepted, Refused}
-use Rattle.runoff.specs.Lines.{Section, sectionOf, isEven, jointNum, jointDen}
+use Rattle.section.specs.Lines.{Section, sectionOf, isEven, jointNum, jointDen}
 use Rattle.runoff.specs.Refusal.{refusal}
 
 -- a runoff is either even or two-stage, with the joint as numerator and denominator

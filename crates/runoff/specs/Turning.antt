@@ -1,26 +1,11 @@
--- Document 01, "Lines of the cross-section": that every line is a fraction, that the outer slope turns as the paper words it, and where heights count from.
+-- Document 01, "Lines of the cross-section": the lines of an accepted card are as the paper words them.
 -- Assumes nothing.
 use mathlib.Core.Path.{_≡_}
-use mathlib.Core.Bool.{false}
-use Rattle.exact.specs.Exact.{Exact, whole, minus, _⊖_, _⊗_, _≼_, _≈_}
 use Rattle.card.specs.declared.Card.{Card}
-use Rattle.runoff.specs.Lines.{Section, sectionOf, On, isEven, joint, outerSlope, outerEdge, innerBrow, Fractions}
+use Rattle.section.specs.Lines.{sectionOf}
+use Rattle.section.specs.Turning.{Turning}
 use Rattle.runoff.specs.Refusal.{refusal}
 
--- from −p at 0 to v at L; in the two-stage case the outer edge climbs at 3‰ until the outer slope is p, at station 2 × h × p / 3
-pub record Turning (x : Section) : Type 0 where
-  pub fractions : (s : Exact) → On x s → Fractions x s
-  pub starts : outerSlope x (whole 0) ≈ minus (x .p)
-  pub ends : outerSlope x (whole (x .L)) ≈ whole (x .v)
-  -- the joint is one of the stations
-  pub joint-on : isEven x ≡ false → On x (joint x)
-  pub at-joint : isEven x ≡ false → outerSlope x (joint x) ≈ whole (x .p)
-  pub first-stage :
-      isEven x ≡ false → (s t : Exact) → On x s → On x t → s ≼ joint x → t ≼ joint x →
-      outerEdge x t ⊖ outerEdge x s ≈ whole 3 ⊗ (t ⊖ s)
-  -- heights count from the inner brow at station 0
-  pub datum : innerBrow x (whole 0) ≈ whole 0
-
--- THEOREM (proofs/TurningRule.antt): so it is with every accepted card
+-- THEOREM (proofs/ClimbingRule.antt): each is a fraction, the outer slope turns from −p to v, and heights count from the inner brow at 0
 abbrev pub TurningTheorem : Type 0
 TurningTheorem = (card : Card) → refusal card ≡ 0 → Turning (sectionOf card)

@@ -23,7 +23,7 @@ ghost use Rattle.card.specs.Profile.{profileAt};
 ghost use Rattle.card.specs.Reasons.{first, refusalBefore};
 ghost use Rattle.runoff.specs.Refusal.{methodTests, refusal};
 ghost use Rattle.runoff.specs.Runoff.{stagesOf, runoffOf, madeOf};
-ghost use Rattle.runoff.specs.Lines.{sectionBy};
+ghost use Rattle.section.specs.Lines.{sectionBy};
 ghost use Rattle.runoff.specs.Table.{replyTo, tableAfter};
 ghost use Rattle.runoff.specs.Climbing.{ClimbingTable};
 

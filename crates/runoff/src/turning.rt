@@ -4,7 +4,7 @@ use crate::Stages;
 ghost use mathlib.Core.Path.{_≡_};
 ghost use Prim.Native.Nat.{_+_, _*_, _-_, _≤_, _<_, max};
 ghost use Rattle.exact.specs.Exact.{whole};
-ghost use Rattle.runoff.specs.Lines.{outerSlope};
+ghost use Rattle.section.specs.Lines.{outerSlope};
 ghost use Rattle.runoff.specs.Reckoning.{sectionIn, Limits, SlopeIs, SlopesAt};
 
 // A slope in per mille: (up - down) / over.

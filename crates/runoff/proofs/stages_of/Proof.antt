@@ -5,9 +5,9 @@ use Prim.Native.Nat.{_+_, _*_, _≤_, _<_}
 use native.Mathlib.Omega.{arith}
 use borrow.Author.Needs.{needs}
 use Rattle.runoff.specs.declared.Stages.the-variants.{Even, TwoStage}
-use Rattle.runoff.specs.Lines.{Section, sectionBy, jointNum, jointDen}
+use Rattle.section.specs.Lines.{Section, sectionBy, jointNum, jointDen}
 use Rattle.runoff.specs.Runoff.{stagesOf}
-use Rattle.runoff.proofs.Slopes.{is-even, not-even}
+use Rattle.section.proofs.Slopes.{is-even, not-even}
 use Rattle.card.proofs.Product.{product-below}
 use Rattle.runoff.proofs.stages_of.Statement.{statement}
 use Rattle.runoff.proofs.stages_of.Tie as tie

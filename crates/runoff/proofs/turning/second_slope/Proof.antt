@@ -4,7 +4,7 @@ use Prim.Native.Nat.{ℕ, _+_, _*_, _-_}
 use native.Mathlib.Omega.{arith}
 use borrow.Author.Needs.{needs}
 use Rattle.exact.specs.Exact.{whole}
-use Rattle.runoff.specs.Lines.{Section, outerSlope}
+use Rattle.section.specs.Lines.{Section, outerSlope}
 use Rattle.runoff.specs.Reckoning.{sectionIn, SlopeIs}
 use Rattle.runoff.proofs.StationSlopes.{second-slope, run-some}
 use Rattle.runoff.proofs.turning.second_slope.Statement.{statement}

@@ -7,7 +7,7 @@ use native.Mathlib.Omega.{arith}
 use borrow.Author.Needs.{needs}
 use borrow.Author.Tests.{leb-true, leb-false}
 use Rattle.runoff.specs.declared.Stages.the-variants.{Even, TwoStage}
-use Rattle.runoff.specs.Lines.{Section, isEven, jointNum, jointDen}
+use Rattle.section.specs.Lines.{Section, isEven, jointNum, jointDen}
 use Rattle.runoff.specs.Reckoning.{sectionIn}
 use Rattle.runoff.proofs.turning.slope_at.Statement.{statement}
 use Rattle.runoff.proofs.turning.slope_at.Tie as tie

@@ -11,15 +11,13 @@ use Rattle.exact.proofs.Ring.{ring}
 use Rattle.exact.specs.Parts.{Is}
 use Rattle.exact.proofs.Is.{is-one, is-minus, is-net, is-eq}
 use Rattle.exact.proofs.Pieces.{piece-exactly}
-use Rattle.runoff.specs.Lines.{Section, isEven, jointNum, outerSlope, innerBrow}
-use Rattle.runoff.specs.Turning.{Turning, TurningTheorem}
-use Rattle.runoff.proofs.Slopes.{even?, joint-is, even-is, first-is, second-is}
-use Rattle.runoff.proofs.Heights.{inner-slope, shoulder-slope, inner-brow}
-use Rattle.runoff.proofs.EdgePieces.{joint-before, joint-on, firstPiece, on-first}
-use Rattle.runoff.proofs.ExactClimb.{ClimbPremises}
-use Rattle.runoff.proofs.ClimbingRule.{premises, narrow}
-use Rattle.runoff.proofs.Proper.{proper}
-use Rattle.runoff.proofs.Accepts.{accepted-rule}
+use Rattle.section.specs.Lines.{Section, isEven, jointNum, outerSlope, innerBrow}
+use Rattle.section.specs.Climbing.{ClimbPremises}
+use Rattle.section.specs.Turning.{Turning, TurnsTheorem}
+use Rattle.section.proofs.Slopes.{even?, joint-is, even-is, first-is, second-is}
+use Rattle.section.proofs.Heights.{inner-slope, shoulder-slope, inner-brow}
+use Rattle.section.proofs.EdgePieces.{joint-before, joint-on, firstPiece, on-first}
+use Rattle.section.proofs.Proper.{proper}
 
 module _ {added : ℕ} {x : Section} (ok : ClimbPremises added x) where
   two : isEven x ≡ false → x .h * (x .p + x .v) < 3 * x .L
@@ -65,5 +63,5 @@ module _ {added : ℕ} {x : Section} (ok : ClimbPremises added x) where
         datum = datum steeper (even? x);
       }
 
-pub turning-rule : TurningTheorem
-turning-rule card passes = turning (premises card passes) (narrow card passes) (accepted-rule card .sizes passes .side-least)
+pub turns : TurnsTheorem
+turns added x ok narrow steeper = turning ok narrow steeper

@@ -11,9 +11,9 @@ use Rattle.exact.proofs.Ring.{ring}
 use Rattle.exact.proofs.Order.{above}
 use Rattle.exact.proofs.Is.{is-one, is-as, is-net, is-le, le-is, station-is, whole-le}
 use Rattle.exact.proofs.Pieces.{Piece, OnPiece}
-use Rattle.runoff.specs.Lines.{Section, On, joint, jointNum, outerEdge}
-use Rattle.runoff.proofs.Slopes.{joint-is, even-is, first-is, second-is}
-use Rattle.runoff.proofs.Heights.{outer-edge}
+use Rattle.section.specs.Lines.{Section, On, joint, jointNum, outerEdge}
+use Rattle.section.proofs.Slopes.{joint-is, even-is, first-is, second-is}
+use Rattle.section.proofs.Heights.{outer-edge}
 
 pub on-whole : (x : Section) (d : ℕ) → d ≤ x .L → On x (whole d)
 on-whole x d h = record { fraction = omega arith; from = whole-le 0 d (omega arith); to = whole-le d (x .L) h }

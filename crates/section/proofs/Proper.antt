@@ -8,11 +8,11 @@ use Rattle.exact.specs.Exact.{Exact}
 use Rattle.exact.proofs.Order.{above}
 use Rattle.exact.specs.Parts.{Is}
 use Rattle.exact.proofs.Is.{is-one, le-is, station-is}
-use Rattle.runoff.specs.Lines.{Section, On, jointNum, outerSlope, Fractions}
-use Rattle.runoff.proofs.Slopes.{even?, even-is, first-is, second-is}
-use Rattle.runoff.proofs.Heights.{outer-edge, outer-brow, inner-slope, shoulder-slope, widening-is, inner-shoulder, inner-edge, inner-brow}
-use Rattle.runoff.proofs.EdgePieces.{joint-before}
-use Rattle.runoff.proofs.ExactClimb.{ClimbPremises}
+use Rattle.section.specs.Lines.{Section, On, jointNum, outerSlope, Fractions}
+use Rattle.section.specs.Climbing.{ClimbPremises}
+use Rattle.section.proofs.Slopes.{even?, even-is, first-is, second-is}
+use Rattle.section.proofs.Heights.{outer-edge, outer-brow, inner-slope, shoulder-slope, widening-is, inner-shoulder, inner-edge, inner-brow}
+use Rattle.section.proofs.EdgePieces.{joint-before}
 
 -- the outer slope is (m − n)/e, for some natural numbers
 record Slope (x : Section) (s : Exact) : Type 0 where

@@ -11,19 +11,10 @@ use Rattle.exact.proofs.Ring.{times-zero}
 use Rattle.exact.proofs.Order.{≼-trans, ≼-antisym, ≺→≼, clash, ask}
 use Rattle.exact.proofs.Climb.{Climb}
 use Rattle.exact.proofs.Pieces.{Piece, Gently, only-same, Glued, glued-proper, glued-climbs, glued-higher-before, glued-higher, glued-gentle, glued-level, glued-same}
-use Rattle.runoff.specs.Lines.{Section, On, joint, outerEdge, firstReached}
-use Rattle.runoff.specs.Climbing.{Level, Climbs}
-use Rattle.runoff.proofs.Slopes.{is-even, not-even, even?}
-use Rattle.runoff.proofs.EdgePieces.{on-whole, evenPiece, firstPiece, rest, gain, secondPiece, on-even, joint-on, on-first, on-second}
-
--- what the proof uses of an accepted card
-pub record ClimbPremises (added : ℕ) (x : Section) : Type 0 where
-  pub wide : 0 < x .h
-  pub crowned : 0 < x .p
-  pub turned : x .p ≤ x .v
-  pub long : 0 < x .L
-  pub steep : 3 ≤ added
-  pub gentle : x .h * (x .p + x .v) ≤ added * x .L
+use Rattle.section.specs.Lines.{Section, On, joint, outerEdge, firstReached}
+use Rattle.section.specs.Climbing.{Level, Climbs, ClimbPremises, ClimbsTheorem}
+use Rattle.section.proofs.Slopes.{is-even, not-even, even?}
+use Rattle.section.proofs.EdgePieces.{on-whole, evenPiece, firstPiece, rest, gain, secondPiece, on-even, joint-on, on-first, on-second}
 
 reached-even : (x : Section) → 3 * x .L ≤ x .h * (x .p + x .v) → firstReached x ≡ whole (x .L)
 unfolding firstReached
@@ -146,11 +137,14 @@ module _ {added : ℕ} {x : Section} {s t : Exact} (ok : ClimbPremises added x) 
   if-so (inl e) = glued-same (rule ok .glued) s t a b e
   if-so (inr l) = ≼-antisym (rule ok .level s t a b l) (rule ok .level t s b a (turn l))
 
-  pub climbs : Climbs added x s t
-  climbs =
+  climbs-so : Climbs added x s t
+  climbs-so =
       record {
         fractions = (glued-proper (rule ok .glued) s a, glued-proper (rule ok .glued) t b);
         equal = (λ e. only e (level? x s t), if-so);
         higher = rule ok .strict s t a b;
         gentle = glued-gentle (rule ok .glued) s t a b;
       }
+
+pub climbs : ClimbsTheorem
+climbs added x ok s t a b = climbs-so ok a b

@@ -10,7 +10,7 @@ use borrow.Author.Tests.{le-leb, lt-leb}
 use Rattle.exact.specs.Exact.{Exact, whole, minus, _⊖_}
 use Rattle.exact.specs.Parts.{Is}
 use Rattle.exact.proofs.Is.{is-frac, is-whole, is-minus, is-one, is-as, is-net, is-add, is-sub, is-mul, is-div, is-times, is-over, is-less, is-from-zero, is-yes, is-no}
-use Rattle.runoff.specs.Lines.{Section, isEven, joint, jointNum, jointDen, outerSlope}
+use Rattle.section.specs.Lines.{Section, isEven, joint, jointNum, jointDen, outerSlope}
 
 -- even or two-stage
 module _ (x : Section) where

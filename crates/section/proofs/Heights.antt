@@ -6,7 +6,7 @@ use native.Mathlib.Omega.{arith}
 use Rattle.exact.specs.Exact.{Exact, whole, _⊕_}
 use Rattle.exact.specs.Parts.{Is}
 use Rattle.exact.proofs.Is.{is-whole, is-net, is-add, is-sub, is-mul, is-times, is-over, is-less, is-floor}
-use Rattle.runoff.specs.Lines.{Section, axisHeight, outerSlope, innerSlope, shoulderSlope, widening, innerShoulder, outerEdge, outerBrow, innerEdge, innerBrow}
+use Rattle.section.specs.Lines.{Section, axisHeight, outerSlope, innerSlope, shoulderSlope, widening, innerShoulder, outerEdge, outerBrow, innerEdge, innerBrow}
 
 -- the outer slope is (m − n)/e
 module _ (x : Section) (s : Exact) {m n e : ℕ} (f : Is (outerSlope x s) m n e) where

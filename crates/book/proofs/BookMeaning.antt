@@ -7,8 +7,9 @@ use native.Mathlib.Omega.{arith}
 use lib.ListN.{length, drop, replicate, length-replicate}
 use lib.Dec.{ltb}
 use borrow.Author.Tests.{ltb-false}
+use Rattle.card_list.specs.List.{curveWidth}
 use Rattle.book.specs.Number.{numberAt, fieldNext}
-use Rattle.book.specs.Book.{leastList, curveWidth, acceptedOf, refusedOf, bodiesFrom, contentsFrom, textReply, replyToBook, afterHeadings, entriesFrom, entriesOf, listAfter, firstHeading}
+use Rattle.book.specs.Book.{leastList, acceptedOf, refusedOf, bodiesFrom, contentsFrom, textReply, replyToBook, afterHeadings, entriesFrom, entriesOf, listAfter, firstHeading}
 use Rattle.book.specs.Printed.{IsBook, IsNumber, Curve, contentsTexts, namesOf, bodiesOf, bookText}
 use Rattle.book.specs.LineMeaning.{Stands, LineTheorem}
 use Rattle.book.specs.Meaning.{bookEntries, curvesIn, TextOfBook, MeaningTheorem}

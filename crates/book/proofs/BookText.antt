@@ -7,12 +7,12 @@ use native.Mathlib.Omega.{arith}
 use native.Mathlib.Nat.{zero-add}
 use lib.ListN.{length, take, drop, length-append, length-map}
 use lib.Seq.{take-append-seam, take-at, drop-at, drop-length}
+use Rattle.card_list.specs.List.{namePlaceIn}
 use Rattle.book.specs.Body.{cardNumbers, endOf}
 use Rattle.book.specs.Book.{mostBytes}
 use Rattle.book.specs.Printed.{Each, IsName, IsBody, IsBook, Curve, digitsText, numberText, contentsText, contentsTexts, bodyText, bodyTexts, namesOf, bodiesOf, bookText}
 use Rattle.book.specs.LineMeaning.{Stands}
 use Rattle.book.specs.Meaning.{entries, curveIn, curvesIn}
-use Rattle.book.specs.Cards.{namePlaceIn}
 use Rattle.book.proofs.Digits.{digits-most}
 use Rattle.book.proofs.Standing.{stands-front, stands-back}
 

@@ -8,12 +8,12 @@ use mathlib.Core.List.{List, [], _∷_, _++_, map, append-assoc}
 use lib.ListN.{length, getD, take, drop, List·getD-append}
 use lib.Seq.{drop-append-add, getD-drop}
 use lib.Dec.{lit<}
+use Rattle.card_list.specs.List.{curveWidth, cardFrom, cardIn, namePlaceIn, nameIn}
 use Rattle.book.specs.Body.{cardNumbers}
-use Rattle.book.specs.Book.{curveWidth}
 use Rattle.book.specs.Printed.{Curve, IsBody, Each, bodiesOf, contentsText, bookText}
 use Rattle.book.specs.LineMeaning.{Starts}
 use Rattle.book.specs.Meaning.{entries, curveIn, curvesIn}
-use Rattle.book.specs.Cards.{cardFrom, cardIn, namePlaceIn, nameIn, HandedTheorem}
+use Rattle.book.specs.Cards.{HandedTheorem}
 use Rattle.book.proofs.BookMeaning.{meaning}
 
 -- the numbers of a curve stand in the entries behind ten numbers for each curve before, and two more

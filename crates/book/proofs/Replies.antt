@@ -10,10 +10,11 @@ use lib.ListN.{length, take, drop, set}
 use lib.Seq.{length-take-le, take-suc-set}
 use lib.Dec.{ltb, leb, eqb}
 use borrow.Author.Tests.{leb-true, le-leb, lt-leb, lt-ltb, le-ltb, ltb-false, eq-eqb, ne-eqb}
+use Rattle.card_list.specs.List.{curveWidth}
 use Rattle.book.specs.Number.{numberAt}
 use Rattle.book.specs.Contents.{contentsLine}
 use Rattle.book.specs.Body.{cardNumbers, bodyFrom}
-use Rattle.book.specs.Book.{mostCurves, mostBytes, leastList, curveWidth, refusedOf, acceptedOf, lineThen, bodiesFrom, contentsFrom, countThen, textReply, replyToBook, entriesOf, listBy, listAfter}
+use Rattle.book.specs.Book.{mostCurves, mostBytes, leastList, refusedOf, acceptedOf, lineThen, bodiesFrom, contentsFrom, countThen, textReply, replyToBook, entriesOf, listBy, listAfter}
 use Rattle.book.specs.declared.text.Field.{Field}
 use Rattle.book.specs.declared.text.Field.the-variants.{Value, NoValue}
 use Rattle.book.specs.declared.lines.Line.{Line}

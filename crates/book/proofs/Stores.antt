@@ -7,11 +7,12 @@ use native.Mathlib.Omega.{arith}
 use native.Mathlib.Numerals.{add-one}
 use lib.ListN.{length, getD, take, drop, set, length-append, drop-of-length-le}
 use lib.Seq.{sets, sets-eq, drop-cons, set-at, take-at, append-snoc, take-suc, length-take-le}
+use Rattle.card_list.specs.List.{curveWidth}
 use Rattle.book.specs.Number.{numberAt, fieldValue, fieldNext}
 use Rattle.book.specs.Name.{nameAt}
 use Rattle.book.specs.Contents.{afterHeading}
 use Rattle.book.specs.Body.{cardNumbers, endOf, numbersAt, afterNumbers}
-use Rattle.book.specs.Book.{mostCurves, curveWidth, leastList, entryAt, entriesFrom, entriesOf}
+use Rattle.book.specs.Book.{mostCurves, leastList, entryAt, entriesFrom, entriesOf}
 use Rattle.book.specs.Reading.{headingsFrom, entriesBy}
 use Rattle.book.specs.declared.text.Field.{Field}
 use Rattle.book.proofs.Places.{none-left}

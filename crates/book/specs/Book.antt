@@ -6,6 +6,7 @@ use mathlib.Core.List.{List, [], _∷_, _++_}
 use mathlib.Core.Bool.{cond, _&&_}
 use lib.ListN.{length, drop}
 use lib.Dec.{ltb, leb, eqb}
+use Rattle.card_list.specs.List.{curveWidth}
 use Rattle.book.specs.Number.{numberAt, fieldNext}
 use Rattle.book.specs.Name.{nameAt}
 use Rattle.book.specs.Contents.{contentsLine, afterHeading}
@@ -23,10 +24,7 @@ mostCurves = 64
 abbrev pub mostBytes : ℕ
 mostBytes = 8192
 
--- the list gets ten numbers a curve, and has room for 64 curves
-abbrev pub curveWidth : ℕ
-curveWidth = 10
-
+-- the list has room for 64 curves, ten numbers each
 abbrev pub leastList : ℕ
 leastList = 640
 

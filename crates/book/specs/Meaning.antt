@@ -5,10 +5,10 @@ use Prim.Native.Nat.{ℕ, zero, suc, _+_, _*_, _≤_}
 use mathlib.Core.Path.{_≡_}
 use mathlib.Core.List.{List, [], _∷_, _++_}
 use lib.ListN.{length, take, drop}
+use Rattle.card_list.specs.List.{curveWidth, nameIn}
 use Rattle.book.specs.Body.{cardNumbers}
-use Rattle.book.specs.Book.{leastList, mostBytes, curveWidth, acceptedOf, replyToBook, listAfter}
+use Rattle.book.specs.Book.{leastList, mostBytes, acceptedOf, replyToBook, listAfter}
 use Rattle.book.specs.Printed.{Curve, IsBook, numberText, contentsText, bookText}
-use Rattle.book.specs.Cards.{nameIn}
 
 -- ten numbers a curve: the byte place of its name, its length, the eight numbers;
 -- the first contents line stands at this place and names this line

@@ -7,10 +7,11 @@ ghost use mathlib.Core.Path.{_≡_};
 ghost use Prim.Native.Nat.{ℕ, _+_, _≤_};
 ghost use lib.ListN.{length};
 ghost use lib.Seq.{sets};
+ghost use Rattle.card_list.specs.List.{curveWidth};
 ghost use Rattle.book.specs.Name.{nameAt};
 ghost use Rattle.book.specs.Contents.{headingAt};
 ghost use Rattle.book.specs.Body.{cardNumbers, endOf, bodyFrom, numbersAt};
-ghost use Rattle.book.specs.Book.{curveWidth, entryAt};
+ghost use Rattle.book.specs.Book.{entryAt};
 ghost use Rattle.book.specs.Reading.{among, lineBy};
 
 // A contents line: the size of its name, its number, and the place after it.

@@ -1,6 +1,5 @@
 // The reply to a text: the lines in order, the first at fault.
 use crate::BookReply;
-use crate::CURVE_WIDTH;
 use crate::MOST_BYTES;
 use crate::MOST_CURVES;
 use crate::lines::Line;
@@ -9,6 +8,7 @@ use crate::lines::curve;
 use crate::text::Field;
 use crate::text::read_name;
 use crate::text::read_number;
+use card_list::CURVE_WIDTH;
 ghost use mathlib.Core.Path.{_≡_};
 ghost use Prim.Native.Nat.{_≤_};
 ghost use mathlib.Core.List.{[]};

@@ -9,7 +9,7 @@ ghost use lib.ListN.{length};
 ghost use Rattle.runoff.specs.Refusal.{refusal};
 ghost use Rattle.runoff.specs.Table.{replyTo, tableAfter};
 ghost use Rattle.runoff.specs.Climbing.{ClimbingTable};
-ghost use Rattle.book.specs.Cards.{cardOf};
+ghost use Rattle.card_list.specs.List.{cardOf};
 ghost use Rattle.book.specs.Book.{replyToBook, listAfter};
 
 // The card with these eight numbers, in the order of the paper.

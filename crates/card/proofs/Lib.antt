@@ -1,3 +1,4 @@
+pub mod SharedBoundaries
 pub mod Product
 pub mod Every
 pub mod Steps
@@ -9,4 +10,3 @@ pub mod RowPlaces
 pub mod Accepts
 pub mod Joined
 pub mod AccurateNumbers
-pub mod SharedBoundaries

@@ -189,7 +189,7 @@ fn try_curve(run: Run, line: Line, numbers: &mut [i32; ROOM], list: &[u32; LIST_
     if !is_one_number(line) || curve >= count {
         return run.not_understood();
     }
-    run_with_card(run, book::card_of_curve(list, curve), numbers)
+    run_with_card(run, card_list::card_of_curve(list, curve), numbers)
 }
 
 // One figure compared with a number.

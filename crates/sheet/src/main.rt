@@ -44,7 +44,7 @@ fn write_curve(
     ensures { λ r. ⌜ r ≡ writtenOf (partOf (now (text .entry)) (now (list .entry)) curve (now (table .entry))) (length (now (buffer .entry))) ⌝ }
     ensures { λ _. ⌜ now (buffer .exit) ≡ bufferAfter (partOf (now (text .entry)) (now (list .entry)) curve (now (table .entry))) (now (buffer .entry)) ⌝ }
 {
-    let card = book::card_of_curve(list, curve);
+    let card = card_list::card_of_curve(list, curve);
     let reply = runoff::fill_table(card, table);
     sheet_text::curve_text(text, list, curve, reply, table, buffer)
 }

@@ -12,9 +12,9 @@ use Rattle.runoff.specs.Rows.{rows}
 use Rattle.runoff.specs.Refusal.{refusal}
 use Rattle.runoff.specs.Readings as runoff
 use Rattle.runoff.proofs.StarredReadings.{readings}
+use Rattle.card_list.specs.List.{cardFrom}
 use Rattle.book.specs.Book.{leastList}
 use Rattle.book.specs.Printed.{digitsText, Each, NoTwins, IsBook}
-use Rattle.book.specs.Cards.{cardFrom}
 use Rattle.book.specs.RampBook.{ramp}
 use Rattle.book.proofs.RampReads.{ramp-book}
 use Rattle.sheet_text.specs.Decimal.{signedText}

@@ -11,10 +11,10 @@ use Rattle.card.specs.declared.Card.{Card}
 use Rattle.runoff.specs.Rows.{cells, rowOf, stationOf, rowCount}
 use Rattle.runoff.specs.Refusal.{refusal}
 use Rattle.runoff.specs.Table.{replyTo, tableAfter}
+use Rattle.card_list.specs.List.{cardOf, cardIn, nameIn}
 use Rattle.book.specs.declared.BookReply.{BookReply}
 use Rattle.book.specs.Book.{leastList, replyToBook, listAfter}
 use Rattle.book.specs.Printed.{Curve, IsBook, bookText}
-use Rattle.book.specs.Cards.{cardOf, cardIn, nameIn}
 use Rattle.sheet_text.specs.Text.{rowText, endedText, blank, curveText, refusedText, bookLine}
 
 -- the lines of the first k rows of a card

@@ -3,6 +3,7 @@ mod decimal;
 mod line;
 mod rows;
 
+ghost use Rattle.card_list.specs.List.{nameIn};
 use crate::decimal::digit_count;
 use crate::decimal::write_count;
 use crate::line::ended_size;
@@ -17,7 +18,6 @@ use runoff::Reply;
 ghost use mathlib.Core.Path.{_≡_};
 ghost use Prim.Native.Nat.{ℕ, min, _+_, _≤_};
 ghost use lib.ListN.{length};
-ghost use Rattle.book.specs.Cards.{nameIn};
 ghost use Rattle.sheet_text.specs.Decimal.{countText};
 ghost use Rattle.sheet_text.specs.Buffer.{sized, writtenOf, bufferAfter};
 ghost use Rattle.sheet_text.specs.Text.{acceptedText, refusedText, curveText, bookLine};
@@ -62,7 +62,7 @@ pub fn curve_text(
     ensures { λ r. ⌜ r ≡ writtenOf (curveText (nameIn (now (text .entry)) (now (list .entry)) curve) reply (now (table .entry))) (length (now (buffer .entry))) ⌝ }
     ensures { λ _. ⌜ now (buffer .exit) ≡ bufferAfter (curveText (nameIn (now (text .entry)) (now (list .entry)) curve) reply (now (table .entry))) (now (buffer .entry)) ⌝ }
 {
-    let name = book::name_of_curve(list, curve);
+    let name = card_list::name_of_curve(list, curve);
     let place = name.place as usize;
     let size = name.size as usize;
     let start = smaller(place, text.len());

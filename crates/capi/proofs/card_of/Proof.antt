@@ -2,9 +2,9 @@
 -- Assumes nothing.
 use borrow.Author.Needs.{needs}
 use mathlib.Core.Path.{refl}
-use Rattle.book.specs.Cards.{cardFrom}
 use Rattle.capi.proofs.card_of.Statement.{statement}
 use Rattle.capi.proofs.card_of.Tie as tie
+use Rattle.card_list.specs.List.{cardFrom}
 
 element-copy-out-t4 : tie.Need-element-copy-out-t4
 element-copy-out-t4 c = search needs

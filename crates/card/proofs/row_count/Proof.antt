@@ -35,7 +35,7 @@ add-result-2 : tie.Need-add-result-2
 add-result-2 c = quotient-fits _ _ _ (omega arith)
 
 returns-2 : tie.Need-returns-2
-returns-2 c = search needs
+returns-2 c = refl
 
 pub row-count-spec : {M : Type 1} → statement M
 row-count-spec = tie.close (tie.spec returns sub-result add-result div-result add-result-2 returns-2)

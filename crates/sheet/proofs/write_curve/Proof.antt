@@ -7,12 +7,12 @@ use lib.ListN.{length}
 use borrow.Author.Needs.{needs}
 use Rattle.card.specs.declared.Card.{Card}
 use Rattle.runoff.specs.Table.{replyTo, tableAfter}
-use Rattle.book.specs.Cards.{nameIn}
 use Rattle.sheet_text.specs.Buffer.{writtenOf, bufferAfter}
 use Rattle.sheet_text.specs.Text.{curveText}
 use Rattle.sheet_text.specs.Sheet.{partOf}
 use Rattle.sheet.proofs.write_curve.Statement.{statement}
 use Rattle.sheet.proofs.write_curve.Tie as tie
+use Rattle.card_list.specs.List.{nameIn}
 
 abbrev start : tie.After-fill-table → tie.Start
 start c = c .before .before .before .before .before .before

@@ -5,10 +5,10 @@ use mathlib.Core.Path.{_≡_, ap, _∙_}
 use lib.ListN.{take, drop}
 use borrow.Author.Needs.{needs}
 use borrow.Author.Tests.{eq-eqb, ne-eqb}
-use Rattle.book.specs.Cards.{nameBytes, nameIn}
 use Rattle.sheet_text.proofs.Parts.{part-cut}
 use Rattle.sheet_text.proofs.curve_text.Statement.{statement}
 use Rattle.sheet_text.proofs.curve_text.Tie as tie
+use Rattle.card_list.specs.List.{nameBytes, nameIn}
 
 abbrev start : tie.After-smaller2 → tie.Start
 start c = c .before .before .before .before .before .before .before .before

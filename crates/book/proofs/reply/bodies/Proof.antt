@@ -8,9 +8,10 @@ use mathlib.Core.List.{List}
 use lib.ListN.{length, getD, drop, length-map}
 use lib.Seq.{sets}
 use borrow.Author.Needs.{needs}
+use Rattle.card_list.specs.List.{curveWidth}
 use Rattle.book.specs.Name.{nameAt}
 use Rattle.book.specs.Body.{cardNumbers}
-use Rattle.book.specs.Book.{curveWidth, refusedOf, bodiesFrom}
+use Rattle.book.specs.Book.{refusedOf, bodiesFrom}
 use Rattle.book.specs.Reading.{entriesBy}
 use Rattle.book.specs.declared.BookReply.{BookReply}
 use Rattle.book.proofs.LineLaws.{Faults26, body-26, body-next}

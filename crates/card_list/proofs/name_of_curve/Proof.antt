@@ -1,9 +1,9 @@
--- `book::name_of_curve` meets its contract.
+-- `card_list::name_of_curve` meets its contract.
 -- Assumes nothing.
 use borrow.Author.Needs.{needs}
-use Rattle.book.specs.Cards.{namePlaceIn}
-use Rattle.book.proofs.name_of_curve.Statement.{statement}
-use Rattle.book.proofs.name_of_curve.Tie as tie
+use Rattle.card_list.specs.List.{namePlaceIn}
+use Rattle.card_list.proofs.name_of_curve.Statement.{statement}
+use Rattle.card_list.proofs.name_of_curve.Tie as tie
 
 mul-at : tie.Need-mul-at
 mul-at c = search needs

@@ -1,10 +1,10 @@
--- `book::number_at` meets its contract.
+-- `card_list::number_at` meets its contract.
 -- Assumes nothing.
 use mathlib.Core.Path.{sym}
 use lib.ListN.{List·getD-eq-default}
 use borrow.Author.Needs.{needs}
-use Rattle.book.proofs.number_at.Statement.{statement}
-use Rattle.book.proofs.number_at.Tie as tie
+use Rattle.card_list.proofs.number_at.Statement.{statement}
+use Rattle.card_list.proofs.number_at.Tie as tie
 
 mul-result : tie.Need-mul-result
 mul-result c = search needs

@@ -1,8 +1,9 @@
 -- Laws of the text of a number.
 -- Assumes nothing.
 use Prim.Native.Nat.{ℕ, zero, suc, _+_, _*_, _/_, _%_, _^_, _≤_, _<_}
-use mathlib.Core.Path.{_≡_, sym, ap, _∙_}
-use mathlib.Core.List.{List, [], _∷_, _++_}
+use mathlib.Core.Path.{_≡_, refl, sym, ap, _∙_}
+use mathlib.Core.Bool.{cond}
+use mathlib.Core.List.{List, [], _∷_, _++_, append-assoc}
 use native.Mathlib.Omega.{arith}
 use native.Mathlib.Nat.{pow-suc}
 use lib.Dec.{ltb}
@@ -15,6 +16,10 @@ use Rattle.book.proofs.Places.{cond-case}
 pub digit-or : {A : Type 0} (v : ℕ) → (v < 10 → A) → (10 ≤ v → A) → A
 digit-or {A} v one more = cond-case (λ (u : Unit {0}). A) (ltb v 10) tt tt (λ t. one (ltb-true v 10 t)) (λ t. more (ltb-false v 10 t))
 
+pub text-none : (v : ℕ) → digitsText 0 v ≡ []
+unfolding digitsText
+text-none v = refl
+
 pub text-one : (k v : ℕ) → v < 10 → digitsText (suc k) v ≡ (48 + v) ∷ []
 unfolding digitsText
 text-one k v h = simp (lt-ltb _ _ h)
@@ -25,12 +30,26 @@ text-more k v h = simp (le-ltb _ _ h)
 
 -- at most as many digits as may stand
 pub digits-most : (k v : ℕ) → length (digitsText k v) ≤ k
-unfolding digitsText
-digits-most zero v = omega arith
+digits-most zero v = omega (arith, ap length (text-none v))
 digits-most (suc k) v =
     digit-or v
     (λ h. omega (arith, ap length (text-one k v h)))
     (λ h. omega (arith, ap length (text-more k v h), length-append (digitsText k (v / 10)) ((48 + v % 10) ∷ []), digits-most k (v / 10)))
+
+-- the text of a number with something behind it, as it is computed
+abbrev pub digitsInto : ℕ → ℕ → List ℕ → List ℕ
+digitsInto zero v behind = behind
+digitsInto (suc k) v behind = cond (ltb v 10) ((48 + v) ∷ behind) (digitsInto k (v / 10) ((48 + v % 10) ∷ behind))
+
+pub digits-into : (k v : ℕ) (behind : List ℕ) → digitsText k v ++ behind ≡ digitsInto k v behind
+digits-into zero v behind = ap (λ (t : List ℕ). t ++ behind) (text-none v)
+digits-into (suc k) v behind =
+    digit-or v
+    (λ h. ap (λ (t : List ℕ). t ++ behind) (text-one k v h) ∙ rw (lt-ltb v 10 h))
+    (λ h. ap (λ (t : List ℕ). t ++ behind) (text-more k v h)
+    ∙ append-assoc (digitsText k (v / 10)) ((48 + v % 10) ∷ []) behind
+    ∙ digits-into k (v / 10) ((48 + v % 10) ∷ behind)
+    ∙ rw (le-ltb v 10 h))
 
 -- one digit more at the end
 text-next : (k v d : ℕ) → 1 ≤ v → d < 10 → digitsText (suc k) (v * 10 + d) ≡ digitsText k v ++ ((48 + d) ∷ [])

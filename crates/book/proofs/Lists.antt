@@ -1,4 +1,4 @@
--- Laws of lists of names and bodies that get one more at the end.
+-- Laws of what holds of each of a list, and of lists of names and bodies that get one more at the end.
 -- Assumes nothing.
 use Prim.Native.Nat.{ℕ, suc, _+_}
 use mathlib.Core.Path.{_≡_, refl, sym, ap, _∙_}
@@ -10,6 +10,14 @@ use Rattle.book.specs.Printed.{Each, IsName, Differs, NoTwins, contentsT
 
 pub length-more : {A : Type 0} (xs : List A) (x : A) → length (xs ++ (x ∷ [])) ≡ length xs + 1
 length-more xs x = length-append xs (x ∷ [])
+
+pub each-none : {A : Type 0} (P : A → Type 0) → Each P []
+unfolding Each
+each-none P = tt
+
+pub each-first : {A : Type 0} (P : A → Type 0) (x : A) (xs : List A) → Each P (x ∷ xs) → P x
+unfolding Each
+each-first P x xs ps = ps .0
 
 pub each-more : {A : Type 0} (P : A → Type 0) (xs : List A) (x : A) → Each P xs → P x → Each P (xs ++ (x ∷ []))
 unfolding Each

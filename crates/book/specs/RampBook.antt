@@ -1,11 +1,13 @@
--- Document 01's own book, of one curve: its text, what the call replies, and the numbers that the list gets.
+-- Document 01's own book, of one curve: its text, what the call replies, the numbers that the list gets, and its card.
 -- Assumes nothing.
 use Prim.Native.Nat.{ℕ}
 use mathlib.Core.Path.{_≡_}
 use mathlib.Core.List.{List, [], _∷_, _++_}
 use lib.ListN.{replicate}
+use Rattle.card.specs.Card as card
 use Rattle.book.specs.Book.{leastList, acceptedOf, replyToBook, listAfter}
-use Rattle.book.specs.Printed.{Curve, bookText}
+use Rattle.book.specs.Printed.{Curve, IsBook, bookText}
+use Rattle.card_list.specs.List.{cardOf}
 
 -- 1, RAMP 3, 5 1 30 30000 60 600 20000 1: three lines, each ended by byte 10
 abbrev pub rampText : List ℕ
@@ -19,7 +21,10 @@ ramp = record { name = 82 ∷ 65 ∷ 77 ∷ 80 ∷ []; numbers = 5 ∷ 1 ∷ 30 
 
 -- THEOREM (proofs/RampReads.antt):
 pub record RampBook : Type 0 where
+  pub is-book : IsBook (ramp ∷ [])
   pub text : bookText (ramp ∷ []) ≡ rampText
   pub reply : replyToBook rampText leastList ≡ acceptedOf 1
   -- the name stands at byte 2 and has 4 bytes; a list of 640 sevens keeps the other 630
   pub list : listAfter rampText (replicate leastList 7) ≡ 2 ∷ 4 ∷ 5 ∷ 1 ∷ 30 ∷ 30000 ∷ 60 ∷ 600 ∷ 20000 ∷ 1 ∷ replicate 630 7
+  -- the card that the curve hands over is RAMP's
+  pub hands : cardOf (ramp .numbers) ≡ card.ramp

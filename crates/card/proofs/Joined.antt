@@ -1,7 +1,7 @@
 -- A table that is written from the front, one block of w numbers after the other.
 -- Assumes nothing.
-use mathlib.Core.Path.{_≡_, sym, _∙_}
-use mathlib.Core.List.{List, _++_, append-assoc, append-nil}
+use mathlib.Core.Path.{_≡_, refl, sym, ap, _∙_}
+use mathlib.Core.List.{List, [], _++_, append-assoc, append-nil}
 use Prim.Native.Nat.{ℕ, zero, suc, _+_, _*_, _-_, _≤_, _<_}
 use native.Mathlib.Nat.{mul-zero, mul-suc}
 use native.Mathlib.Numerals.{add-one}
@@ -12,6 +12,15 @@ use lib.ListN.{length, drop, getD, length-append, drop-of-length-le, List·getD-
 use lib.Seq.{sets, sets-eq, take-at, drop-append-add, drop-drop, getD-append-add}
 use borrow.Rule.Slice.PartMut.{putMid, post-is}
 use Rattle.card.specs.Rows.{joined}
+
+-- no block, and one block more
+pub joined-none : (f : ℕ → List ℤ) → joined f 0 ≡ []
+unfolding joined
+joined-none f = refl
+
+pub joined-more : (f : ℕ → List ℤ) (k : ℕ) → joined f (suc k) ≡ joined f k ++ f k
+unfolding joined
+joined-more f k = refl
 
 -- stores at every place of a list, from the first on
 pub sets-all : (xs l : List ℤ) → length l ≡ length xs → sets l 0 xs ≡ xs
@@ -30,16 +39,14 @@ put-next p old xs n w e =
 
 module _ (f : ℕ → List ℤ) (w : ℕ) (wide : (i : ℕ) → length (f i) ≡ w) where
   pub length-joined : (k : ℕ) → length (joined f k) ≡ w * k
-  unfolding joined
-  length-joined zero = sym (mul-zero w)
-  length-joined (suc k) = rw (length-append, mul-suc) (omega (arith, length-joined k, wide k))
+  length-joined zero = ap length (joined-none f) ∙ sym (mul-zero w)
+  length-joined (suc k) = rw (joined-more f k, length-append, mul-suc) (omega (arith, length-joined k, wide k))
 
-  -- one block more
+  -- one block more is written
   pub next :
       (k : ℕ) (old : List ℤ) →
       putMid (w * k) (w * k + w - w * k) (joined f k ++ drop (w * k) old) (f k) ≡ joined f (k + 1) ++ drop (w * (k + 1)) old
-  unfolding joined
-  next k old = rw (add-one, mul-suc) (put-next (joined f k) old (f k) (w * k) w (length-joined k))
+  next k old = rw (add-one, joined-more f k, mul-suc) (put-next (joined f k) old (f k) (w * k) w (length-joined k))
 
   -- number m of block i, where n blocks are joined and something stands past them
   abbrev Block : ℕ → ℕ → ℕ → Type 0
@@ -50,11 +57,10 @@ module _ (f : ℕ → List ℤ) (w : ℕ) (wide : (i : ℕ) → length (f i) ≡
       rw (← length-joined n, getD-append-add) (List·getD-append (f n) rest z m (omega (arith, wide n)))
 
   one-more : (n i m : ℕ) → i ≤ n → m < w → Dec (i < n) → (i < n → Block n i m) → Block (suc n) i m
-  unfolding joined
-  one-more n i m h g (yes b) earlier rest z = rw append-assoc (earlier b (f n ++ rest) z)
+  one-more n i m h g (yes b) earlier rest z = rw (joined-more f n, append-assoc) (earlier b (f n ++ rest) z)
   one-more n i m h g (no b) earlier rest z =
       let same : i ≡ n = omega arith in
-      rw (same, append-assoc) (in-last n m g rest z)
+      rw (same, joined-more f n, append-assoc) (in-last n m g rest z)
 
   pub at-place : (n i m : ℕ) → i < n → m < w → Block n i m
   at-place zero i m h g = absurd (omega arith)

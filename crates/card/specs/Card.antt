@@ -16,3 +16,7 @@ card profile terrain R L v W step unit =
       step = step;
       unit = unit;
     }
+
+-- document 01's own example, RAMP: one lane of V, level, R 30 m, L 30 m, v 60 ‰, W 600 mm, a row every 20 m, unit 1 mm
+abbrev pub ramp : Card
+ramp = card 5 1 30 30000 60 600 20000 1

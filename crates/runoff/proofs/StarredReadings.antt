@@ -45,6 +45,8 @@ pub readings : Readings
 unfolding rounded profiles profileAt clothoids leastLength outerSlope outerEdge outerBrow innerSlope widening innerEdge innerShoulder shoulderSlope innerBrow row joined rows refusal replyNumber replyTo
 readings =
     record {
+      ramp-accepted = refl;
+      ramp-count = refl;
       ramp-reply = refl;
       ramp-rows = refl;
       added-met = λ W step unit. gives refl;

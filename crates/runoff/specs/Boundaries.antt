@@ -6,11 +6,10 @@ use mathlib.Core.List.{List, [], _∷_, _++_, map}
 use Prim.Native.Nat.{ℕ, zero, suc}
 use lib.IntN.{ℤ, pos, negℤ}
 use Rattle.card.specs.declared.Card.{Card}
-use Rattle.card.specs.Card.{card}
+use Rattle.card.specs.Card.{card, ramp}
 use Rattle.runoff.specs.Rows.{cells, rowOf, rows}
 use Rattle.runoff.specs.Refusal.{refusal}
 use Rattle.runoff.specs.Table.{replyTo, tableAfter}
-use Rattle.runoff.specs.Readings.{ramp}
 
 -- a card and the number that it gives
 pub record Edge : Type 0 where

@@ -8,16 +8,13 @@ use Prim.Native.Nat.{ℕ}
 use lib.Dec.{eqb}
 use lib.IntN.{ℤ, pos, negℤ}
 use Rattle.card.specs.declared.Card.{Card}
-use Rattle.card.specs.Card.{card}
+use Rattle.card.specs.Card.{card, ramp}
 use Rattle.card.specs.Clothoid.{leastLength}
 use Rattle.card.specs.Reasons.{Test, first}
 use Rattle.section.specs.Lines.{sectionOf, isEven}
-use Rattle.runoff.specs.Rows.{rowOf, rows}
+use Rattle.runoff.specs.Rows.{rowCount, rowOf, rows}
 use Rattle.runoff.specs.Refusal.{ownTests, refusal}
 use Rattle.runoff.specs.Table.{replyTo}
-
-abbrev pub ramp : Card
-ramp = card 5 1 30 30000 60 600 20000 1
 
 -- n is one of ns
 abbrev pub among : List ℕ → ℕ → Bool
@@ -43,6 +40,9 @@ outerEdges x (d ∷ ds) = rowOf x d .«outer_edge» ∷ outerEdges x ds
 
 -- THEOREM (proofs/StarredReadings.antt)
 pub record Readings : Type 0 where
+  -- RAMP's card is accepted, and has three rows
+  pub ramp-accepted : refusal ramp ≡ 0
+  pub ramp-count : rowCount ramp ≡ 3
   -- the RAMP rows, three of them, in a table that they fill
   pub ramp-reply : replyTo ramp 21 ≡ record { number = 0; count = 3 }
   pub ramp-rows :

@@ -12,7 +12,7 @@ use lib.IntN.{ℤ, pos, negsuc, natAbs, _-ℤ_}
 use lib.Signed.{ltZ}
 use borrow.Author.Tests.{ltb-true}
 use Rattle.book.specs.Printed.{digitsText}
-use Rattle.book.proofs.Digits.{digit-or, text-one, text-more, tenth-below}
+use Rattle.book.proofs.Digits.{digit-or, text-none, text-one, text-more, tenth-below}
 use Rattle.book.proofs.Places.{none-left}
 use Rattle.book.proofs.Stores.{sets-append}
 use Rattle.sheet_text.specs.Decimal.{mostDigits, countText, signedText}
@@ -75,8 +75,8 @@ last-length (suc n) v = length-append (lastDigits n (v / 10)) ((48 + v % 10) ∷
 
 -- the text of a number is as many last digits as it has
 pub text-last : (k v : ℕ) → digitsText k v ≡ lastDigits (length (digitsText k v)) v
-unfolding lastDigits digitsText
-text-last zero v = refl
+unfolding lastDigits
+text-last zero v = text-none v ∙ ap (λ (t : List ℕ). lastDigits (length t) v) (sym (text-none v))
 text-last (suc k) v =
     digit-or v
     (λ h. let d : v ≡ v % 10 = omega arith in

@@ -1,56 +1,91 @@
--- Document 01's own sheet, from the rows of RAMP's card, and its two refusals, computed by the definitions.
+-- Document 01's own sheet, from the rows of RAMP's card, and its two refusals. What the card, its rows and its book are is cited.
 -- Assumes nothing.
-use mathlib.Core.Path.{_≡_, refl, sym, ap, _∙_}
+use mathlib.Core.Path.{_≡_, refl, sym, ap, ap₂, _∙_}
 use mathlib.Core.List.{List, [], _∷_, _++_}
-use Prim.Native.Nat.{ℕ}
-use lib.Dec.{lit<, lit≤}
-use lib.IntN.{ℤ}
-use lib.ListN.{replicate}
-use Rattle.runoff.specs.Profile.{profiles, profileAt}
-use Rattle.runoff.specs.Clothoid.{clothoids, leastLength}
-use Rattle.runoff.specs.Rows.{rows}
-use Rattle.runoff.specs.Refusal.{refusal}
-use Rattle.runoff.specs.Readings as runoff
+use Prim.Native.Nat.{ℕ, zero, suc}
+use lib.Dec.{lit≤}
+use lib.IntN.{ℤ, pos, negsuc}
+use lib.ListN.{length, take, drop, replicate}
+use Rattle.card.specs.Card as card
+use Rattle.runoff.specs.Rows.{rowWidth, rowCount, rows}
 use Rattle.runoff.proofs.StarredReadings.{readings}
-use Rattle.card_list.specs.List.{cardFrom}
+use Rattle.book.specs.Body.{endOf}
 use Rattle.book.specs.Book.{leastList}
-use Rattle.book.specs.Printed.{digitsText, Each, NoTwins, IsBook}
 use Rattle.book.specs.RampBook.{ramp}
+use Rattle.book.proofs.Digits.{digitsInto, digits-into}
 use Rattle.book.proofs.RampReads.{ramp-book}
-use Rattle.sheet_text.specs.Decimal.{signedText}
-use Rattle.sheet_text.specs.Text.{rowText, rowsText, endedText, blank, refusedText, refusedBookText}
-use Rattle.sheet_text.specs.Sheet.{rowLines, cardSheet, curvesSheet, sheetOf}
+use Rattle.sheet_text.specs.Decimal.{mostDigits, signedText}
+use Rattle.sheet_text.specs.Text.{rowText, rowsText, heldRows, endedText, blank, refusedWord, bookWord, lineWord, acceptedText, refusedText, refusedBookText}
+use Rattle.sheet_text.specs.Sheet.{cardSheet, curvesSheet, sheetOf}
 use Rattle.sheet_text.specs.RampSheet.{rampName, rampPrinted, RampSheet}
-use Rattle.sheet_text.proofs.SheetLaws.{lines-there}
-use Rattle.sheet_text.proofs.Sheets.{sheets}
+use Rattle.sheet_text.proofs.Sheets.{accepted-sheet, sheets}
 
--- the lines of the card's three rows, printed from its table
-row-lines : rowLines runoff.ramp 3 ≡ rowsText 3 (rows runoff.ramp ++ [])
-unfolding rows
-row-lines = sym (lines-there runoff.ramp 3 [])
+-- ---- the texts as they are computed: the digits of every figure put before what stands behind them
+abbrev countInto : ℕ → List ℕ → List ℕ
+countInto = digitsInto mostDigits
+
+ended-into : (word : List ℕ) (v : ℕ) → endedText word v ≡ word ++ countInto v (10 ∷ [])
+unfolding endedText
+ended-into word v = ap (λ (t : List ℕ). word ++ t) (digits-into mostDigits v (10 ∷ []))
+
+abbrev signedInto : ℤ → List ℕ → List ℕ
+signedInto (pos n) behind = countInto n behind
+signedInto (negsuc n) behind = 45 ∷ countInto (suc n) behind
+
+signed-into : (z : ℤ) (behind : List ℕ) → signedText z ++ behind ≡ signedInto z behind
+unfolding signedText
+signed-into (pos n) behind = digits-into mostDigits n behind
+signed-into (negsuc n) behind = ap (λ (t : List ℕ). 45 ∷ t) (digits-into mostDigits (suc n) behind)
+
+abbrev rowInto : List ℤ → List ℕ
+rowInto [] = []
+rowInto (z ∷ row) = signedInto z (endOf (length row) ∷ rowInto row)
+
+row-into : (row : List ℤ) → rowText row ≡ rowInto row
+unfolding rowText
+row-into [] = refl
+row-into (z ∷ row) =
+    signed-into z (endOf (length row) ∷ rowText row) ∙ ap (λ (t : List ℕ). signedInto z (endOf (length row) ∷ t)) (row-into row)
+
+abbrev rowsInto : ℕ → List ℤ → List ℕ
+rowsInto zero table = []
+rowsInto (suc k) table = rowInto (take rowWidth table) ++ rowsInto k (drop rowWidth table)
+
+rows-into : (k : ℕ) (table : List ℤ) → rowsText k table ≡ rowsInto k table
+unfolding rowsText
+rows-into zero table = refl
+rows-into (suc k) table = ap₂ (λ (t u : List ℕ). t ++ u) (row-into (take rowWidth table)) (rows-into k (drop rowWidth table))
+
+-- name and row count, then the rows
+abbrev acceptedInto : List ℕ → ℕ → List ℤ → List ℕ
+acceptedInto name count table = name ++ ((blank ++ countInto count (10 ∷ [])) ++ rowsInto (heldRows count table) table)
+
+accepted-into : (name : List ℕ) (count : ℕ) (table : List ℤ) → acceptedText name count table ≡ acceptedInto name count table
+unfolding acceptedText
+accepted-into name count table =
+    ap₂ (λ (t u : List ℕ). name ++ (t ++ u)) (ended-into blank count) (rows-into (heldRows count table) table)
+
+-- ---- RAMP
+card-sheet : cardSheet rampName card.ramp ≡ rampPrinted
+card-sheet =
+    accepted-sheet rampName card.ramp (readings .ramp-accepted) []
+    ∙ accepted-into rampName (rowCount card.ramp) (rows card.ramp ++ [])
+    ∙ ap₂ (λ (n : ℕ) (l : List ℤ). acceptedInto rampName n (l ++ [])) (readings .ramp-count) (readings .ramp-rows)
 
 curve-sheet : curvesSheet (ramp ∷ []) ≡ rampPrinted
-unfolding profiles profileAt clothoids leastLength refusal digitsText cardFrom signedText rowText rowsText endedText cardSheet curvesSheet
-curve-sheet =
-    ap (λ (t : List ℕ). (rampName ++ (endedText blank 3 ++ t)) ++ [])
-    (row-lines ∙ ap (λ (l : List ℤ). rowsText 3 (l ++ [])) (readings .ramp-rows))
-
-is-book : IsBook (ramp ∷ [])
-unfolding Each NoTwins
-is-book = record {
-  some = lit≤ tt;
-  few = lit≤ tt;
-  names = (record { some = lit≤ tt; short = lit≤ tt; bytes = (refl, (refl, (refl, (refl, tt)))) }, tt);
-  bodies = (record { eight = refl; small = (lit< tt, (lit< tt, (lit< tt, (lit< tt, (lit< tt, (lit< tt, (lit< tt, (lit< tt, tt)))))))) }, tt);
-  twins = (tt, tt);
-}
+unfolding curvesSheet
+curve-sheet = ap (λ (t : List ℕ). t ++ []) (ap (cardSheet rampName) (ramp-book .hands) ∙ card-sheet)
 
 pub ramp-prints : RampSheet
-unfolding digitsText endedText refusedText refusedBookText
+unfolding refusedText refusedBookText
 ramp-prints = record {
   sheet = λ tables long.
       let list : List ℕ = replicate leastList 0 in
-      ap (λ (t : List ℕ). sheetOf t list tables) (sym (ramp-book .text)) ∙ sheets .book (ramp ∷ []) list tables is-book (lit≤ tt) long ∙ curve-sheet;
-  card = refl;
-  book = refl;
+      ap (λ (t : List ℕ). sheetOf t list tables) (sym (ramp-book .text))
+      ∙ sheets .book (ramp ∷ []) list tables (ramp-book .is-book) (lit≤ tt) long
+      ∙ curve-sheet;
+  card = ap (λ (t : List ℕ). rampName ++ t) (ended-into refusedWord 8);
+  book =
+      ap (λ (t : List ℕ). bookWord ++ t)
+      (digits-into mostDigits 24 (endedText lineWord 2) ∙ ap (λ (t : List ℕ). countInto 24 t) (ended-into lineWord 2));
 }

@@ -9,9 +9,9 @@ use lib.IntN.{ℤ, pos, negsuc, negℤ, natAbs}
 use lib.ListN.{getD}
 use Rattle.book.specs.Number.{digitOf}
 use Rattle.book.specs.Printed.{Each, digitsText}
-use Rattle.book.proofs.Digits.{digit-or, digits-most, text-one, text-more, tenth-below}
+use Rattle.book.proofs.Digits.{digit-or, digits-most, text-none, text-one, text-more, tenth-below}
 use Rattle.book.proofs.NumberText.{of-digit}
-use Rattle.book.proofs.Lists.{each-more}
+use Rattle.book.proofs.Lists.{each-none, each-first, each-more}
 use Rattle.sheet_text.specs.Decimal.{mostDigits, countText, signedText, digitsValue, signedOf, IsDigit, DecimalTheorem}
 use Rattle.sheet_text.proofs.DecimalLaws.{size-some}
 
@@ -23,8 +23,8 @@ value-more u d (b ∷ text) h = value-more (u * 10 + digitOf b) d text h
 
 -- the digits of a number have its value
 text-value : (k v : ℕ) → v < 10 ^ k → digitsValue 0 (digitsText k v) ≡ v
-unfolding digitsValue digitsText
-text-value zero v h = omega arith
+unfolding digitsValue
+text-value zero v h = ap (digitsValue 0) (text-none v) ∙ omega arith
 text-value (suc k) v h =
     digit-or v
     (λ l. ap (digitsValue 0) (text-one k v l) ∙ value-more 0 v [] l ∙ omega arith)
@@ -34,19 +34,18 @@ text-value (suc k) v h =
 
 -- the text of a count has digits only
 text-digits : (k v : ℕ) → Each IsDigit (digitsText k v)
-unfolding digitsText Each
-text-digits zero v = tt
+text-digits zero v = rw (text-none v) (each-none IsDigit)
 text-digits (suc k) v =
     digit-or v
-    (λ l. rw (text-one k v l) (rw (of-digit v l) l, tt))
+    (λ l. rw (text-one k v l) (each-more IsDigit [] (48 + v) (each-none IsDigit) (rw (of-digit v l) l)))
     (λ l. let d : v % 10 < 10 = omega arith in
     rw (text-more k v l) (each-more IsDigit (digitsText k (v / 10)) (48 + v % 10) (text-digits k (v / 10)) (rw (of-digit (v % 10) d) d)))
 
 -- no digit is a minus, so a text of digits reads as a count
 signed-plain : (text : List ℕ) → Each IsDigit text → signedOf text ≡ pos (digitsValue 0 text)
-unfolding signedOf digitsValue Each
+unfolding signedOf digitsValue
 signed-plain [] all = refl
-signed-plain (b ∷ text) all = simp (ne-eqb b 45 (λ e. let d : 10 < 10 = subst IsDigit e (all .0) in omega arith))
+signed-plain (b ∷ text) all = simp (ne-eqb b 45 (λ e. let d : 10 < 10 = subst IsDigit e (each-first IsDigit b text all) in omega arith))
 
 back : (z : ℤ) → natAbs z < 10 ^ mostDigits → signedOf (signedText z) ≡ z
 unfolding signedOf signedText
@@ -59,7 +58,6 @@ first-kept [] b h = absurd (omega arith)
 first-kept (first ∷ text) b h = h
 
 text-leading : (k v : ℕ) → 1 ≤ v → v < 10 ^ k → 49 ≤ getD (digitsText k v) 0 48
-unfolding digitsText
 text-leading zero v some few = absurd (omega arith)
 text-leading (suc k) v some few =
     digit-or v

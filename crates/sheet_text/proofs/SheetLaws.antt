@@ -1,16 +1,15 @@
 -- Laws of the texts of a sheet: the lines of the rows that stand in a table, and how many bytes each text has at most.
 -- Assumes nothing.
 use Prim.Native.Nat.{ℕ, zero, suc, _+_, _*_, _≤_}
-use mathlib.Core.Path.{_≡_, refl, sym, ap, ap₂, _∙_}
+use mathlib.Core.Path.{_≡_, sym, ap, ap₂, _∙_}
 use mathlib.Core.List.{List, [], _∷_, _++_, append-assoc, append-nil}
 use native.Mathlib.Omega.{arith}
 use lib.IntN.{ℤ, pos, negsuc}
 use lib.ListN.{length, take, drop, length-append}
 use lib.Seq.{take-at, drop-at, drop-drop}
 use Rattle.card.specs.declared.Card.{Card}
-use Rattle.runoff.specs.Rows.{cells, rowOf, stationOf, rowWidth, joined}
-use Rattle.runoff.proofs.Joined.{length-joined}
-use Rattle.runoff.proofs.RowBlocks.{firstRows}
+use Rattle.runoff.specs.Rows.{rowWidth}
+use Rattle.runoff.proofs.RowBlocks.{block, firstRows, length-block, first-none, first-more, length-first}
 use Rattle.book.proofs.Digits.{digits-most}
 use Rattle.sheet_text.specs.Decimal.{mostDigits, signedText}
 use Rattle.sheet_text.specs.Text.{rowText, rowsText, endedText}
@@ -32,22 +31,20 @@ rows-next (suc k) table =
     ∙ ap (λ (n : ℕ). rowsText (suc k) table ++ rowText (take rowWidth (drop n table))) further
 
 module _ (card : Card) where
-  abbrev block : ℕ → List ℤ
-  block k = cells (rowOf card (stationOf card k))
-
-  block-there : (k : ℕ) (rest : List ℤ) → rowAt k (firstRows card k ++ (block k ++ rest)) ≡ block k
+  block-there : (k : ℕ) (rest : List ℤ) → rowAt k (firstRows card k ++ (block card k ++ rest)) ≡ block card k
   block-there k rest =
-      ap (take rowWidth) (drop-at (firstRows card k) (block k ++ rest) (rowWidth * k) (length-joined block rowWidth (λ i. refl) k))
-      ∙ take-at (block k) rest rowWidth refl
+      ap (take rowWidth) (drop-at (firstRows card k) (block card k ++ rest) (rowWidth * k) (length-first card k))
+      ∙ take-at (block card k) rest rowWidth (length-block card k)
 
   -- the first k rows of a card, whatever stands behind them in the table
   pub lines-there : (k : ℕ) (rest : List ℤ) → rowsText k (firstRows card k ++ rest) ≡ rowLines card k
-  unfolding rowsText rowLines joined
-  lines-there zero rest = refl
+  unfolding rowsText rowLines
+  lines-there zero rest = ap (λ (l : List ℤ). rowsText 0 (l ++ rest)) (first-none card)
   lines-there (suc k) rest =
-      ap (rowsText (suc k)) (append-assoc (firstRows card k) (block k) rest)
-      ∙ rows-next k (firstRows card k ++ (block k ++ rest))
-      ∙ ap₂ (λ (t : List ℕ) (l : List ℤ). t ++ rowText l) (lines-there k (block k ++ rest)) (block-there k rest)
+      ap (λ (l : List ℤ). rowsText (suc k) (l ++ rest)) (first-more card k)
+      ∙ ap (rowsText (suc k)) (append-assoc (firstRows card k) (block card k) rest)
+      ∙ rows-next k (firstRows card k ++ (block card k ++ rest))
+      ∙ ap₂ (λ (t : List ℕ) (l : List ℤ). t ++ rowText l) (lines-there k (block card k ++ rest)) (block-there k rest)
 
 -- ---- how many bytes a text has at most
 -- a word, a count and the end of the line
@@ -69,4 +66,4 @@ row-short (z ∷ row) = simp length-append (omega (arith, signed-short z, row-sh
 pub lines-short : (card : Card) (k : ℕ) → length (rowLines card k) ≤ 84 * k
 unfolding rowLines
 lines-short card zero = omega arith
-lines-short card (suc k) = simp length-append (omega (arith, lines-short card k, row-short (cells (rowOf card (stationOf card k)))))
+lines-short card (suc k) = simp length-append (omega (arith, lines-short card k, row-short (block card k), length-block card k))

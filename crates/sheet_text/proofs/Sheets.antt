@@ -41,6 +41,11 @@ module _ (name : List ℕ) (card : Card) where
       let held : heldRows (rowCount card) (rows card ++ rest) ≡ rowCount card = omega (arith, length-append (rows card) rest, length-rows card) in
       rw (held, ← all-rows card, lines-there card (rowCount card) rest)
 
+  -- an accepted card's sheet, printed from its rows
+  pub accepted-sheet : refusal card ≡ 0 → (rest : List ℤ) → cardSheet name card ≡ acceptedText name (rowCount card) (rows card ++ rest)
+  unfolding cardSheet
+  accepted-sheet passes rest = rw passes (sym (rows-text rest))
+
   module _ (table : List ℤ) (long : enoughNumbers ≤ length table) where
     abbrev given : List ℕ
     given = curveText name (replyTo card (length table)) (tableAfter card table)

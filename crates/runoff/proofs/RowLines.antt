@@ -1,31 +1,19 @@
 -- Each height of a row as the code reckons it, with the bounds of every product on the way.
 -- Assumes nothing.
 use mathlib.Core.Path.{_≡_}
-use Prim.Native.Nat.{ℕ, _+_, _*_, _-_, _≤_}
+use Prim.Native.Nat.{ℕ, _+_, _*_, _-_, _≤_, _<_}
 use native.Mathlib.Nat.{mul-le-mul, mul-le-mul-right, mul-pos}
 use native.Mathlib.Omega.{arith}
-use Rattle.exact.specs.Exact.{Exact, whole, ratio, _⊗_}
-use Rattle.exact.specs.Parts.{Is}
-use Rattle.exact.proofs.Is.{is-one, is-times, is-ratio, is-same}
-use Rattle.exact.proofs.Rounded.{rounding-laws}
-use Rattle.card.specs.Rows.{tie, inUnits}
+use Rattle.exact.specs.Exact.{whole, _⊗_}
+use Rattle.exact.proofs.Is.{is-one, is-times}
+use Rattle.rounding.specs.Nearest.{Sized}
+use Rattle.rounding.proofs.Parts.{Line}
 use Rattle.runoff.specs.declared.Runoff.{Runoff}
 use Rattle.runoff.specs.declared.turning.Slopes.{Slopes}
 use Rattle.section.specs.Lines.{Section, axisHeight, widening, outerEdge, outerBrow, innerEdge, innerBrow}
-use Rattle.runoff.specs.Reckoning.{sectionIn, axisIn, Limits, Ready, Sized}
+use Rattle.runoff.specs.Reckoning.{sectionIn, axisIn, Limits, Ready}
 use Rattle.runoff.proofs.StationSlopes.{shoulder-rise, crown-rise}
 use Rattle.section.proofs.Heights.{outer-edge, outer-brow, inner-edge, inner-brow, widening-is}
-
--- x is (a − b)/d, which can be rounded to units of u mm
-pub record Line (x : Exact) (a b d u : ℕ) : Type 0 where
-  pub is : Is x a b d
-  pub sized : Sized a b d u
-
--- and is rounded as its parts are
-pub counted : {x : Exact} {a b d u : ℕ} → Line x a b d u → inUnits u (ratio a b d) ≡ inUnits u x
-counted {x} {a} {b} {d} {u} f =
-    let parts = is-ratio a b d (f .is .over) in
-    rounding-laws tie (1000 * u) (omega (arith, f .sized .unit)) .same (ratio a b d) x (f .is .over) (f .is .proper) (is-same parts (f .is))
 
 axis-high : {r : Runoff} → Limits r → axisHeight (sectionIn r) ≤ 337500
 axis-high {r} l = omega (arith, shoulder-rise r l, crown-rise r l)
@@ -77,8 +65,8 @@ module _ {r : Runoff} {d : ℕ} {s : Slopes} {u : ℕ} (z : Ready r d s u) where
             record {
               some = z .limits .long;
               few = omega (arith, z .limits .clothoid-most);
-              high = omega (arith, widened, mul-le-mul-right (x .L) (z .limits .shoulder-most));
-              low = omega arith;
+              high = omega (arith, widened, mul-le-mul-right (x .L) (z .limits .shoulder-most), z .limits .long);
+              low = omega (arith, z .limits .long);
               unit = z .unit;
               units = z .units;
             };
@@ -89,8 +77,8 @@ module _ {r : Runoff} {d : ℕ} {s : Slopes} {u : ℕ} (z : Ready r d s u) where
       record {
         some = z .slopes .outer-is .over;
         few = omega (arith, z .slopes .few);
-        high = omega (arith, mul-le-mul-right (s .over) axis-most, mul-le-mul h (z .slopes .high));
-        low = omega (arith, mul-le-mul h (z .slopes .low));
+        high = omega (arith, mul-le-mul-right (s .over) axis-most, mul-le-mul h (z .slopes .high), z .slopes .outer-is .over);
+        low = omega (arith, mul-le-mul h (z .slopes .low), z .slopes .outer-is .over);
         unit = z .unit;
         units = z .units;
       }
@@ -109,6 +97,9 @@ module _ {r : Runoff} {d : ℕ} {s : Slopes} {u : ℕ} (z : Ready r d s u) where
         is = rw (z .slopes .axis-is) (outer-brow x (whole d) (z .slopes .outer-is));
         sized = outer-sized (x .h + x .c) (omega (arith, z .limits .half-most, z .limits .shoulder-most));
       }
+
+  full-some : 0 < full
+  full-some = mul-pos (z .limits .long) (z .slopes .outer-is .over)
 
   full-few : full ≤ 270000000000
   full-few = mul-le-mul (z .limits .clothoid-most) (z .slopes .few)
@@ -132,10 +123,10 @@ module _ {r : Runoff} {d : ℕ} {s : Slopes} {u : ℕ} (z : Ready r d s u) where
   inner-sized : (b : ℕ) → b ≤ lane + side → Sized (s .axis * full) b full u
   inner-sized b h =
       record {
-        some = mul-pos (z .limits .long) (z .slopes .outer-is .over);
-        few = full-few;
-        high = omega (arith, mul-le-mul-right full axis-most);
-        low = omega (arith, lane-most, side-most);
+        some = full-some;
+        few = omega (arith, full-few);
+        high = omega (arith, mul-le-mul-right full axis-most, full-some);
+        low = omega (arith, lane-most, side-most, full-some);
         unit = z .unit;
         units = z .units;
       }

@@ -1,8 +1,7 @@
 -- What the private functions that reckon a row ask and promise.
 -- Assumes nothing.
 use mathlib.Core.Path.{_≡_}
-use Prim.Native.Nat.{ℕ, _+_, _*_, _≤_, _<_}
-use lib.IntN.{ℤ, natAbs}
+use Prim.Native.Nat.{ℕ, _+_, _*_, _≤_}
 use Rattle.exact.specs.Exact.{Exact, whole}
 use Rattle.exact.specs.Parts.{Is}
 use Rattle.card.specs.Rows.{inUnits}
@@ -71,23 +70,6 @@ pub record Ready (r : Runoff) (d : ℕ) (s : Slopes) (u : ℕ) : Type 0 where
   pub slopes : SlopesAt (sectionIn r) d s
   pub unit : 1 ≤ u
   pub units : u ≤ 10
-
--- what is to be rounded is (a − b)/d: at most 4000 mm either way, over at most 300000 × 900000; the unit u is in mm
-pub record Sized (a b d u : ℕ) : Type 0 where
-  pub some : 0 < d
-  pub few : d ≤ 270000000000
-  pub high : a ≤ 4000000 * d
-  pub low : b ≤ 4000000 * d
-  pub unit : 1 ≤ u
-  pub units : u ≤ 10
-
--- the same of num / den in units of u micrometres
-pub record Roundable (num : ℤ) (den u : ℕ) : Type 0 where
-  pub some : 0 < den
-  pub few : den ≤ 270000000000
-  pub most : natAbs num ≤ 4000000 * den
-  pub unit : 1 ≤ u
-  pub units : u ≤ 10000
 
 -- the heights of the two sides at the station d, in units of u mm
 unfoldable pub innerSides : Section → ℕ → ℕ → Sides

@@ -1,6 +1,6 @@
 // The section rules of typical design 503-0-45: the check of a curve card, the runoff that is made of an accepted one, and the table of its heights.
 mod conditions;
-mod rounding;
+mod counts;
 mod rows;
 mod turning;
 

@@ -1,7 +1,7 @@
 // The rows of a table: where they stand, their seven numbers, and how they are written.
 use crate::ROW_WIDTH;
 use crate::Runoff;
-use crate::rounding::height;
+use crate::counts::height;
 use crate::turning::Slopes;
 use crate::turning::slopes_at;
 use card::Card;

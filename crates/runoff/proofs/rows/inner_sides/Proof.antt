@@ -3,8 +3,10 @@
 use mathlib.Core.Path.{_∙_}
 use native.Mathlib.Omega.{arith}
 use mir.Facts.{toZ-ofZ}
+use Rattle.rounding.proofs.Parts.{counted}
+use Rattle.card.specs.Rows.{tie as tieRule}
 use Rattle.runoff.specs.Reckoning.{innerSides}
-use Rattle.runoff.proofs.RowLines.{counted, inner-edge-line, inner-brow-line, widened, lane-few, shoulder-few, long-few}
+use Rattle.runoff.proofs.RowLines.{inner-edge-line, inner-brow-line, widened, lane-few, shoulder-few, long-few}
 use Rattle.runoff.proofs.Fields.{same-sides}
 use Rattle.runoff.proofs.rows.inner_sides.Statement.{statement}
 use Rattle.runoff.proofs.rows.inner_sides.Tie as tie
@@ -14,8 +16,8 @@ unfolding innerSides
 returns c =
     let z = c .before .before .pre in
     same-sides
-    (toZ-ofZ (record { sfits = c .height2 .ok }) ∙ c .height2 .ensures ∙ counted (inner-brow-line z))
-    (toZ-ofZ (record { sfits = c .before .height .ok }) ∙ c .before .height .ensures ∙ counted (inner-edge-line z))
+    (toZ-ofZ (record { sfits = c .height2 .ok }) ∙ c .height2 .ensures ∙ counted tieRule (inner-brow-line z))
+    (toZ-ofZ (record { sfits = c .before .height .ok }) ∙ c .before .height .ensures ∙ counted tieRule (inner-edge-line z))
 
 mul-widening : tie.Need-mul-widening
 mul-widening c = record { fits = omega (arith, lane-few (c .pre), long-few (c .pre)) }

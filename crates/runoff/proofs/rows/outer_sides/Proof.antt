@@ -4,8 +4,10 @@ use mathlib.Core.Path.{_∙_}
 use native.Mathlib.Omega.{arith}
 use borrow.Author.Needs.{needs}
 use mir.Facts.{toZ-ofZ}
+use Rattle.rounding.proofs.Parts.{counted}
+use Rattle.card.specs.Rows.{tie as tieRule}
 use Rattle.runoff.specs.Reckoning.{outerSides}
-use Rattle.runoff.proofs.RowLines.{counted, outer-edge-line, outer-brow-line}
+use Rattle.runoff.proofs.RowLines.{outer-edge-line, outer-brow-line}
 use Rattle.runoff.proofs.Fields.{same-sides}
 use Rattle.runoff.proofs.rows.outer_sides.Statement.{statement}
 use Rattle.runoff.proofs.rows.outer_sides.Tie as tie
@@ -15,8 +17,8 @@ unfolding outerSides
 returns c =
     let z = c .before .before .pre in
     same-sides
-    (toZ-ofZ (record { sfits = c .height2 .ok }) ∙ c .height2 .ensures ∙ counted (outer-brow-line z))
-    (toZ-ofZ (record { sfits = c .before .height .ok }) ∙ c .before .height .ensures ∙ counted (outer-edge-line z))
+    (toZ-ofZ (record { sfits = c .height2 .ok }) ∙ c .height2 .ensures ∙ counted tieRule (outer-brow-line z))
+    (toZ-ofZ (record { sfits = c .before .height .ok }) ∙ c .before .height .ensures ∙ counted tieRule (outer-edge-line z))
 
 -- what is rounded fits, and so does each product on the way
 height-requires : tie.Need-height-requires

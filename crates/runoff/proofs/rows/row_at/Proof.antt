@@ -7,10 +7,12 @@ use mir.Syntax.{w32}
 use mir.Val.{SFits}
 use mir.Facts.{toZ-ofZ}
 use Rattle.exact.proofs.Machine.{nat-back}
+use Rattle.rounding.proofs.Parts.{counted}
 use Rattle.runoff.specs.declared.rows.Sides.{Sides}
+use Rattle.card.specs.Rows.{tie as tieRule}
 use Rattle.runoff.specs.Rows.{row}
 use Rattle.runoff.specs.Reckoning.{Ready, innerSides, outerSides}
-use Rattle.runoff.proofs.RowLines.{counted, widening-line}
+use Rattle.runoff.proofs.RowLines.{widening-line}
 use Rattle.runoff.proofs.Fields.{same-row}
 use Rattle.runoff.proofs.rows.row_at.Statement.{statement}
 use Rattle.runoff.proofs.rows.row_at.Tie as tie
@@ -33,7 +35,7 @@ returns c =
     let out-edge : SFits w32 (o .outer-sides .result .edge) = record { sfits = c .before .struct-told3 .given .1 .0 .1 } in
     same-row
     (nat-back w32 (z .before .args .d) (omega (arith, z .before .pre)))
-    (toZ-ofZ (record { sfits = w .height .ok }) ∙ w .height .ensures ∙ counted (widening-line (ready z)))
+    (toZ-ofZ (record { sfits = w .height .ok }) ∙ w .height .ensures ∙ counted tieRule (widening-line (ready z)))
     (toZ-ofZ in-brow ∙ ap (λ (x : Sides). x .brow) (n .inner-sides .ensures))
     (toZ-ofZ in-edge ∙ ap (λ (x : Sides). x .edge) (n .inner-sides .ensures))
     (toZ-ofZ (z .before .fits .axis) ∙ z .before .pre .1)

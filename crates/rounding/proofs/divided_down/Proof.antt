@@ -1,4 +1,4 @@
--- `runoff::rounding::floor_div` meets its contract. Below nought a is negsuc k, and -1 - a is k.
+-- `rounding::divided_down` meets its contract. Below nought a is negsuc k, and -1 - a is k.
 -- Assumes nothing.
 use mathlib.Core.Path.{_≡_, sym, ap, ap₂, _∙_}
 use Prim.Native.Nat.{ℕ, _/_}
@@ -9,13 +9,14 @@ use lib.IntN.{ℤ, pos, negsuc, _-ℤ_}
 use lib.Signed.{mag, quotZ}
 use mir.Syntax.{w64}
 use mir.Val.{SFits, toZ, ofZ}
-use mir.Facts.{toZ-ofZ, sfits-lit}
+use mir.Facts.{toZ-ofZ}
 use Rattle.exact.specs.Parts.{up}
 use Rattle.exact.specs.Rounding.{floorDiv}
-use Rattle.exact.proofs.Integers.{ints, sub-parts, is-pos}
-use Rattle.exact.proofs.Machine.{bounds, back, fits-as, nat-back, test-lt, test-not-lt, is-neg}
-use Rattle.runoff.proofs.rounding.floor_div.Statement.{statement}
-use Rattle.runoff.proofs.rounding.floor_div.Tie as tie
+use Rattle.exact.proofs.Integers.{ints, sub-parts}
+use Rattle.exact.proofs.Machine.{bounds, back, fits-as, nat-back}
+use Rattle.rounding.proofs.Signs.{Below, below-nought, from-nought}
+use Rattle.rounding.proofs.divided_down.Statement.{statement}
+use Rattle.rounding.proofs.divided_down.Tie as tie
 
 -- the divisor, as it is read back
 module _ (s : tie.Start) where
@@ -28,7 +29,7 @@ module _ (s : tie.Start) where
 cast-d : tie.Need-cast-d
 cast-d c = search needs
 
--- below nought, where a is negsuc k
+-- below nought
 module _ (c : tie.Then1) where
   abbrev a : ℤ
   a = c .before .args .a
@@ -36,23 +37,17 @@ module _ (c : tie.Then1) where
   abbrev k : ℕ
   k = mag a
 
-  a-is : a ≡ negsuc k
-  a-is = is-neg a (omega (arith, ints, test-lt {b = pos 0} (c .before .fits .a) (sfits-lit tt) (c .if1 .taken)))
-
-  k-is : negsuc 0 -ℤ toZ w64 (ofZ w64 a) ≡ pos k
-  k-is = ap (λ (z : ℤ). negsuc 0 -ℤ z) (toZ-ofZ (c .before .fits .a) ∙ a-is) ∙ omega (arith, ints, sub-parts (negsuc 0) (negsuc k))
-
-  k-fits : SFits w64 (pos k)
-  k-fits = record { sfits = c .before .fits .a .sfits }
+  sign : Below a
+  sign = below-nought a (c .before .fits .a) (c .if1 .taken)
 
   abbrev q : ℤ
   q = quotZ (toZ w64 (ofZ w64 (negsuc 0 -ℤ toZ w64 (ofZ w64 a)))) (toZ w64 (m (c .before)))
 
   q-is : q ≡ pos (k / m (c .before))
-  q-is = ap₂ quotZ (back k-is k-fits) (m-back (c .before))
+  q-is = ap₂ quotZ (back (sign .turned) (sign .fits)) (m-back (c .before))
 
   q-fits : SFits w64 (pos (k / m (c .before)))
-  q-fits = record { sfits = omega (arith, div-le-self k (m (c .before)), k-fits .sfits) }
+  q-fits = record { sfits = omega (arith, div-le-self k (m (c .before)), sign .fits .sfits) }
 
   r-is : negsuc 0 -ℤ toZ w64 (ofZ w64 q) ≡ negsuc (k / m (c .before))
   r-is = ap (λ (z : ℤ). negsuc 0 -ℤ z) (back q-is q-fits) ∙ omega (arith, ints, sub-parts (negsuc 0) (pos (k / m (c .before))))
@@ -61,10 +56,10 @@ module _ (c : tie.Then1) where
   r-fits = record { sfits = q-fits .sfits }
 
 returns : tie.Need-returns
-returns c = back (r-is c) (r-fits c) ∙ ap (λ (z : ℤ). floorDiv z (m (c .before))) (sym (a-is c))
+returns c = back (r-is c) (r-fits c) ∙ ap (λ (z : ℤ). floorDiv z (m (c .before))) (sym (sign c .is))
 
 sub-result : tie.Need-sub-result
-sub-result c = fits-as (k-is c) (k-fits c)
+sub-result c = fits-as (sign c .turned) (sign c .fits)
 
 div-result : tie.Need-div-result
 div-result c = (c .before .pre .0, fits-as (q-is c) (q-fits c))
@@ -78,7 +73,7 @@ module _ (c : tie.Else1) where
   b = c .before .args .a
 
   n-is : b ≡ pos (up b)
-  n-is = is-pos b (omega (arith, ints, test-not-lt {b = pos 0} (c .before .fits .a) (sfits-lit tt) (c .if1 .left)))
+  n-is = from-nought b (c .before .fits .a) (c .if1 .left)
 
   n-fits : SFits w64 (pos (up b / m (c .before)))
   n-fits = record { sfits = omega (arith, div-le-self (up b) (m (c .before)), bounds (c .before .fits .a)) }
@@ -92,6 +87,6 @@ div-result-2 c = (c .before .pre .0, fits-as (n-quot c) (n-fits c))
 returns-2 : tie.Need-returns-2
 returns-2 c = back (n-quot c) (n-fits c) ∙ ap (λ (z : ℤ). floorDiv z (m (c .before))) (sym (n-is c))
 
-pub floor-div-spec : {M : Type 1} → statement M
-floor-div-spec =
+pub divided-down-spec : {M : Type 1} → statement M
+divided-down-spec =
     tie.close (tie.spec cast-d sub-result div-result sub-result-2 div-result-2 returns returns-2)

@@ -1,15 +1,15 @@
 -- A table that is written from the front, one block of w numbers after the other.
 -- Assumes nothing.
 use mathlib.Core.Path.{_≡_, refl, sym, ap, _∙_}
-use mathlib.Core.List.{List, [], _++_, append-assoc, append-nil}
+use mathlib.Core.List.{List, [], _++_, append-assoc}
 use Prim.Native.Nat.{ℕ, zero, suc, _+_, _*_, _-_, _≤_, _<_}
 use native.Mathlib.Nat.{mul-zero, mul-suc}
 use native.Mathlib.Numerals.{add-one}
 use native.Mathlib.Omega.{arith}
 use native.Mathlib.Decide.{decLt}
 use lib.IntN.{ℤ}
-use lib.ListN.{length, drop, getD, length-append, drop-of-length-le, List·getD-append}
-use lib.Seq.{sets, sets-eq, take-at, drop-append-add, drop-drop, getD-append-add}
+use lib.ListN.{length, drop, getD, length-append, List·getD-append}
+use lib.Seq.{take-at, drop-append-add, drop-drop, getD-append-add}
 use borrow.Rule.Slice.PartMut.{putMid, post-is}
 use Rattle.card.specs.Rows.{joined}
 
@@ -21,12 +21,6 @@ joined-none f = refl
 pub joined-more : (f : ℕ → List ℤ) (k : ℕ) → joined f (suc k) ≡ joined f k ++ f k
 unfolding joined
 joined-more f k = refl
-
--- stores at every place of a list, from the first on
-pub sets-all : (xs l : List ℤ) → length l ≡ length xs → sets l 0 xs ≡ xs
-sets-all xs l e =
-    let long : length l ≤ 0 + length xs = omega arith in
-    sets-eq xs l 0 (omega arith) ∙ rw (drop-of-length-le l long) (append-nil xs)
 
 -- p, and past it what the old list has there: xs goes into the part of w places right after p
 put-next :

@@ -9,4 +9,5 @@ pub mod Entries
 pub mod RowPlaces
 pub mod Accepts
 pub mod Joined
+pub mod Stored
 pub mod AccurateNumbers

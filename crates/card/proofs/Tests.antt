@@ -10,7 +10,7 @@ use lib.Dec.{ltb, eqb}
 use lib.ListN.{length, getD}
 use borrow.Author.Tests.{ltb-true, ltb-false, eqb-true, eqb-false, not-true, ne-eqb, le-ltb}
 use Rattle.card.specs.declared.Card.{Card}
-use Rattle.card.specs.Reasons.{Test, test, first, testsBefore, testsAfter, refusalBefore, refusalAfter, refusalRoom}
+use Rattle.card.specs.Reasons.{Test, test, first, testsBefore, testsAfter, testsRoom, refusalBefore, refusalAfter, refusalRoom}
 use Rattle.card.proofs.Every.{every, here, later, at-place}
 
 abbrev pub numbered : Test → Bool
@@ -68,6 +68,10 @@ unfolding refusalAfter
 after-first card = refl
 
 -- ---- the room
+pub room-first : (width count room : ℕ) → first (testsRoom width count room) ≡ refusalRoom width count room
+unfolding refusalRoom
+room-first width count room = refl
+
 pub room-held : (width count room : ℕ) → (refusalRoom width count room ≡ 0) ↔ (width * count ≤ room)
 unfolding refusalRoom
 room-held width count room = (

@@ -151,6 +151,10 @@ is-sum {d = d} {d′ = d′} f g = is-add (is-scale d′ (g .over) f) (is-as g (
 pub is-diff : {x y : Exact} {a b d a′ b′ d′ : ℕ} → Is x a b d → Is y a′ b′ d′ → Is (x ⊖ y) (a * d′ + b′ * d) (b * d′ + a′ * d) (d * d′)
 is-diff {d = d} {d′ = d′} f g = is-sub (is-scale d′ (g .over) f) (is-as g (mul-pos (f .over) (g .over)) (omega arith))
 
+-- a/b is n/(P b) past S/P
+pub is-past : {x y : Exact} {a b S P : ℕ} → Is x a 0 b → Is y S 0 P → (n : ℕ) → P * a ≡ S * b + n → Is (x ⊖ y) n 0 (P * b)
+is-past {b = b} {P = P} f g n e = is-as (is-diff f g) (mul-pos (g .over) (f .over)) (omega (arith, ap (λ (k : ℕ). k * (P * b)) e))
+
 -- ---- the order: (a − b)/d is at most (a′ − b′)/d′ where a d′ + b′ d is at most a′ d + b d′
 -- the two comparisons, each multiplied by the denominators of the other
 scaled :

@@ -68,10 +68,6 @@ pub ≺-≼-trans : {x y z : Exact} → 0 < z .den → x ≺ y → y ≼ z → x
 ≺-≼-trans {x} {y} {z} d a b =
     lt-in (lt-of-mul-lt-mul-left (y .den) (omega (arith, mul-lt-mul-of-pos-right (lt-out a) d, mul-le-mul-right (x .den) (le-out b))))
 
-pub ≼-≺-trans : {x y z : Exact} → 0 < x .den → x ≼ y → y ≺ z → x ≺ z
-≼-≺-trans {x} {y} {z} d a b =
-    lt-in (lt-of-mul-lt-mul-left (y .den) (omega (arith, mul-le-mul-right (z .den) (le-out a), mul-lt-mul-of-pos-right (lt-out b) d)))
-
 pub ≼-antisym : {x y : Exact} → x ≼ y → y ≼ x → x ≈ y
 ≼-antisym a b = eq-in (omega (arith, le-out a, le-out b))
 

@@ -2,7 +2,7 @@
 -- Assumes nothing.
 use mathlib.Core.Path.{_≡_, refl, sym, ap, _∙_}
 use mathlib.Core.List.{_++_}
-use Prim.Native.Nat.{ℕ, _≤_}
+use Prim.Native.Nat.{_≤_}
 use lib.Dec.{lit<}
 use Rattle.card.specs.declared.Card.{Card}
 use Rattle.card.specs.declared.Profile.{Profile}
@@ -13,7 +13,6 @@ use Rattle.card.proofs.Tests.{passes, then, first-then, then-none, before-then,
 use Rattle.card.proofs.Steps.{at-start, passed}
 use Rattle.card.proofs.Unmet.{not-above}
 use Rattle.card.proofs.Accepts.{shared-rule, unit-in}
-use Rattle.runoff.specs.Rows.{rowCount}
 use Rattle.runoff.specs.Refusal.{methodTests, refusal}
 use Rattle.runoff.specs.Accepted.{AcceptedBy, AcceptedTheorem}
 

@@ -1,7 +1,7 @@
 -- Demand 3, the climbing rule, the accuracy rule and the turning of the lines, of every card that none of its own reasons refuses.
 -- Assumes nothing.
 use mathlib.Core.Path.{_≡_, refl}
-use Prim.Native.Nat.{ℕ, _*_, _≤_, _<_}
+use Prim.Native.Nat.{ℕ, _≤_, _<_}
 use native.Mathlib.Omega.{arith}
 use Rattle.card.specs.declared.Card.{Card}
 use Rattle.card.specs.Profile.{addedOf}

@@ -1,14 +1,14 @@
 -- What a card and a lent table are answered, and the table afterwards: refused by one of its own reasons, short of room, or accepted.
 -- Assumes nothing.
-use mathlib.Core.Path.{_≡_, refl, sym, _∙_}
+use mathlib.Core.Path.{_≡_, refl, sym, ap, _∙_}
 use mathlib.Core.List.{List, _++_}
 use Prim.Native.Nat.{ℕ, _*_, _≤_}
 use lib.IntN.{ℤ}
 use lib.ListN.{length, drop}
 use borrow.Author.Tests.{ne-eqb}
 use Rattle.card.specs.declared.Card.{Card}
-use Rattle.card.specs.Reasons.{testsRoom, refusalRoom}
-use Rattle.card.proofs.Tests.{then, first-then, then-first, room-held}
+use Rattle.card.specs.Reasons.{first, testsRoom, refusalRoom}
+use Rattle.card.proofs.Tests.{then, first-then, then-first, room-first, room-held}
 use Rattle.runoff.specs.declared.Reply.{Reply}
 use Rattle.runoff.specs.Refusal.{ownTests, refusal}
 use Rattle.runoff.specs.Rows.{rowCount, rowWidth, rows}
@@ -19,8 +19,10 @@ use Rattle.runoff.proofs.ClimbingTable.{climbing-table}
 -- ---- the number of the reply
 module _ (card : Card) (room : ℕ) where
   number-is : replyNumber card room ≡ then (refusal card) (refusalRoom rowWidth (rowCount card) room)
-  unfolding replyNumber refusal refusalRoom
-  number-is = first-then (ownTests card) (testsRoom rowWidth (rowCount card) room) refl
+  unfolding replyNumber refusal
+  number-is =
+      first-then (ownTests card) (testsRoom rowWidth (rowCount card) room) refl
+      ∙ ap (then (first (ownTests card))) (room-first rowWidth (rowCount card) room)
 
   number-own : (refusal card ≡ 0 → ⊥) → replyNumber card room ≡ refusal card
   number-own ne = number-is ∙ then-first _ _ ne

@@ -2,7 +2,7 @@
 -- Assumes nothing.
 use mathlib.Core.Path.{_≡_}
 use mathlib.Core.Logic.{_↔_}
-use Prim.Native.Nat.{ℕ, _+_, _*_, _≤_}
+use Prim.Native.Nat.{_+_, _*_, _≤_}
 use Rattle.card.specs.declared.Card.{Card}
 use Rattle.card.specs.declared.Profile.{Profile}
 use Rattle.card.specs.Profile.{profileAt, addedSlope, addedOf}

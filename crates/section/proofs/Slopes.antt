@@ -9,7 +9,7 @@ use native.Mathlib.Omega.{arith}
 use borrow.Author.Tests.{le-leb, lt-leb}
 use Rattle.exact.specs.Exact.{Exact, whole, minus, _⊖_}
 use Rattle.exact.specs.Parts.{Is}
-use Rattle.exact.proofs.Is.{is-frac, is-whole, is-minus, is-one, is-as, is-net, is-add, is-sub, is-mul, is-div, is-times, is-over, is-less, is-from-zero, is-yes, is-no}
+use Rattle.exact.proofs.Is.{is-frac, is-whole, is-minus, is-one, is-as, is-net, is-add, is-sub, is-mul, is-div, is-times, is-over, is-less, is-past, is-from-zero, is-yes, is-no}
 use Rattle.section.specs.Lines.{Section, isEven, joint, jointNum, jointDen, outerSlope}
 
 -- even or two-stage
@@ -56,8 +56,7 @@ module _ (x : Section) {s : Exact} {a b : ℕ} (at : Is s a 0 b) where
         let E = 3 * x .L - J in
         let k : 0 < E * b = mul-pos (omega arith) (at .over) in
         let turn = is-less turned (is-one (x .v)) (is-one (x .p)) in
-        let over : 0 < 3 * b = mul-pos (omega arith) (at .over) in
-        let past : Is (s ⊖ joint x) (3 * a - J * b) 0 (3 * b) = is-less (omega arith) (is-as at over (omega arith)) (is-as (joint-is x) over (omega arith)) in
-        let run : Is (whole (x .L) ⊖ joint x) E 0 3 = is-less (omega arith) (is-as (is-one (x .L)) (omega arith) (omega arith)) (joint-is x) in
+        let past : Is (s ⊖ joint x) (3 * a - J * b) 0 (3 * b) = is-past at (joint-is x) (3 * a - J * b) (omega arith) in
+        let run : Is (whole (x .L) ⊖ joint x) E 0 3 = is-past (is-one (x .L)) (joint-is x) E (omega arith) in
         rw (not-even x two, is-no at (joint-is x) (omega arith))
         (is-add (is-whole (x .p) (E * b) k) (is-as {a′ = (x .v - x .p) * (3 * a - J * b)} {b′ = 0} (is-div (is-mul turn past) run (omega arith)) k (omega arith)))

@@ -4,7 +4,7 @@ use mathlib.Core.Path.{sym}
 use mathlib.Core.List.{List}
 use borrow.Author.Needs.{needs}
 use Rattle.card.specs.Reasons.{Test, testsAfter, refusalAfter}
-use Rattle.card.proofs.Steps.{Says, at-start, passed, refused}
+use Rattle.card.proofs.Steps.{at-start, passed, refused}
 use Rattle.card.proofs.check_after.Statement.{statement}
 use Rattle.card.proofs.check_after.Tie as tie
 

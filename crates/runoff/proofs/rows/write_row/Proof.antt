@@ -1,35 +1,15 @@
 -- `runoff::rows::write_row` meets its contract.
 -- Assumes nothing.
-use mathlib.Core.Path.{_≡_, refl, ap, ap₂, _∙_}
-use mathlib.Core.List.{List, [], _∷_, map}
-use Prim.Native.Nat.{_<_, _^_}
+use mathlib.Core.Path.{ap, _∙_}
 use native.Mathlib.Omega.{arith}
-use lib.IntN.{ℤ}
 use lib.ListN.{length-set}
 use lib.Seq.{sets}
-use lib.Signed.{mag}
-use mir.Syntax.{w32}
-use mir.Val.{toZ, ofZ}
-use mir.Facts.{toZ-ofZ}
 use denote.Ref.{now}
 use borrow.Author.Needs.{needs}
 use Rattle.runoff.specs.Rows.{cells}
-use Rattle.card.proofs.Joined.{sets-all}
+use Rattle.card.proofs.Stored.{AllFit, read-back, sets-all}
 use Rattle.runoff.proofs.rows.write_row.Statement.{statement}
 use Rattle.runoff.proofs.rows.write_row.Tie as tie
-
--- the numbers fit 32 bits, sign and all
-abbrev AllFit : List ℤ → Type 0
-AllFit [] = Unit {0}
-AllFit (z ∷ zs) = (mag z < 2 ^ 31) × AllFit zs
-
--- as the code reads them
-abbrev read : ℤ → ℤ
-read z = toZ w32 (ofZ w32 z)
-
-read-back : (zs : List ℤ) → AllFit zs → map read zs ≡ zs
-read-back [] f = refl
-read-back (z ∷ zs) f = ap₂ (λ x xs. x ∷ xs) (toZ-ofZ (record { sfits = f .0 })) (read-back zs (f .1))
 
 slice-set-from-station : tie.Need-slice-set-from-station
 slice-set-from-station c = search needs

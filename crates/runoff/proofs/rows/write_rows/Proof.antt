@@ -1,6 +1,6 @@
 -- `runoff::rows::write_rows` meets its contract. The loop's invariant: the first i rows are written, and past them stands what stood there.
 -- Assumes nothing.
-use mathlib.Core.Path.{_≡_, refl, ap, ap₂, _∙_}
+use mathlib.Core.Path.{_≡_, refl, sym, ap, ap₂, _∙_}
 use mathlib.Core.List.{List, _++_}
 use Prim.Native.Nat.{ℕ, _+_, _*_, _-_, _≤_}
 use native.Mathlib.Omega.{arith}
@@ -17,7 +17,7 @@ use Rattle.runoff.specs.Rows.{row, cells, rowCount, rowWidth, stationOf,
 use Rattle.runoff.specs.Runoff.{runoffOf}
 use Rattle.runoff.specs.Reckoning.{sectionIn}
 use Rattle.card.proofs.RowPlaces.{station-most}
-use Rattle.card.proofs.Joined.{next}
+use Rattle.card.proofs.Joined.{joined-none, next}
 use Rattle.runoff.proofs.Accepts.{unit-of, accepted-rule}
 use Rattle.runoff.proofs.Limits.{same-section, limits-of}
 use Rattle.runoff.proofs.rows.write_rows.Statement.{statement}
@@ -59,8 +59,10 @@ axis-count-requires c κs =
     (rw (c .before .pre .0 .1) (limits-of card passes), unit .0, unit .1)
 
 loop-holds : tie.Need-loop-holds Inv-loop μ-loop
-unfolding joined
-loop-holds c = record { most = omega arith; long = refl; so-far = refl }
+loop-holds c =
+    let args = c .before .before .args in
+    let none = joined-none (block (args .r) (args .card .unit) (args .card .clothoid) (args .card .step)) in
+    record { most = omega arith; long = refl; so-far = sym (ap (λ (l : List ℤ). l ++ now (args .table)) none) }
 
 cast-place : tie.Need-cast-place Inv-loop μ-loop
 cast-place c = omega (arith, few (c .before .before .before .before))

@@ -53,10 +53,14 @@ module _ (n : ℕ) (least : 1 ≤ n) (most : n ≤ 5) where
   unfolding profiles
   least-radius = leb-true 30 _ (passes (λ r. leb 30 (r .«least_radius»)) refl)
 
+  -- whichever of the two is taken
   added-passes :
       (f : ℕ → Bool) (terrain : ℕ) → every (λ r. f (r .«added_level»)) profiles ≡ true → every (λ r. f (r .«added_mountain»)) profiles ≡ true →
       f (addedSlope (profileAt n) terrain) ≡ true
-  added-passes f terrain s t = of-two f (eqb terrain 1) _ _ (passes (λ r. f (r .«added_level»)) s) (passes (λ r. f (r .«added_mountain»)) t)
+  added-passes f terrain s t =
+      let level = passes (λ r. f (r .«added_level»)) s in
+      let mountain = passes (λ r. f (r .«added_mountain»)) t in
+      of-two f (eqb terrain 1) _ _ (search (level, mountain)) (search (level, mountain))
 
   pub sizes : (terrain : ℕ) → Sizes (profileAt n) (addedSlope (profileAt n) terrain)
   unfolding profiles

@@ -11,8 +11,7 @@ use lib.Dec.{leb, ltb, eqb}
 use lib.ListN.{length, getD}
 use borrow.Author.Tests.{leb-true, ltb-true}
 use Rattle.card.specs.declared.Profile.{Profile}
-use Rattle.card.specs.Words.{outside}
-use Rattle.card.specs.Profile.{profiles, profileAt, noProfile, addedSlope}
+use Rattle.card.specs.Profile.{profiles, profileAt, noProfile, NoOtherProfile, addedSlope}
 use Rattle.card.specs.Accepted.{Sizes}
 use Rattle.card.proofs.Every.{every, at-place, of-two}
 use Rattle.card.proofs.Unmet.{one-of}
@@ -41,7 +40,7 @@ unfolding profileAt
 none-at-nought zero h = refl
 none-at-nought (suc n) h = absurd (omega arith)
 
-pub none-outside : (n : ℕ) → outside n 1 5 ≡ true → profileAt n ≡ noProfile
+pub none-outside : NoOtherProfile
 none-outside n e = ⊎-elim (λ t. none-at-nought n (ltb-true n 1 t)) (λ t. none-past n (ltb-true 5 n t)) (one-of (ltb n 1) (ltb 5 n) e)
 
 module _ (n : ℕ) (least : 1 ≤ n) (most : n ≤ 5) where

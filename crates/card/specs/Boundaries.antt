@@ -18,7 +18,7 @@ addedSlopes terrain R L v W step unit =
 
 -- THEOREM (proofs/SharedBoundaries.antt)
 pub record Boundaries : Type 0 where
-  -- terrain 1, level, and 2, mountain; only profile 1 can meet the reason that looks at the added slope, so no card tells the others apart
+  -- terrain 1, level, and 2, mountain; by 503-0-45 only profile 1 can meet the reason that looks at the added slope, so no reply of that method tells the others apart
   pub level : (R L v W step unit : ℕ) → addedSlopes 1 R L v W step unit ≡ 5 ∷ 10 ∷ 10 ∷ 10 ∷ 10 ∷ []
   pub mountain : (R L v W step unit : ℕ) → addedSlopes 2 R L v W step unit ≡ 5 ∷ 20 ∷ 20 ∷ 20 ∷ 20 ∷ []
   -- 7 rows of 7 numbers need 49, and 7 of 9 need 63

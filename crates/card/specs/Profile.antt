@@ -1,12 +1,14 @@
 -- Document 01, "The card": the five profiles, and the added slope.
 -- Assumes nothing.
-use mathlib.Core.Bool.{cond}
+use mathlib.Core.Path.{_≡_}
+use mathlib.Core.Bool.{true, cond}
 use mathlib.Core.List.{List, [], _∷_}
 use Prim.Native.Nat.{ℕ, zero, suc}
 use lib.Dec.{eqb}
 use lib.ListN.{getD}
 use Rattle.card.specs.declared.Card.{Card}
 use Rattle.card.specs.declared.Profile.{Profile}
+use Rattle.card.specs.Words.{outside}
 
 -- h is half the carriageway, c the shoulder, m the least shoulder, all in mm; p is the crown slope and q the shoulder slope on a straight, in ‰
 abbrev pub profile : ℕ → ℕ → ℕ → ℕ → ℕ → ℕ → ℕ → ℕ → Profile
@@ -39,6 +41,10 @@ noProfile = profile 0 0 0 0 0 0 0 0
 unfoldable pub profileAt : ℕ → Profile
 profileAt zero = noProfile
 profileAt (suc n) = getD profiles n noProfile
+
+-- THEOREM (proofs/Entries.antt): a number that is not 1 to 5 has the profile of noughts
+abbrev pub NoOtherProfile : Type 0
+NoOtherProfile = (n : ℕ) → outside n 1 5 ≡ true → profileAt n ≡ noProfile
 
 -- the added slope, in ‰; terrain 1 is level, 2 mountain
 abbrev pub addedSlope : Profile → ℕ → ℕ

@@ -2,9 +2,11 @@
 -- numbers)". What a curve of a list is: its card, and its name.
 -- Assumes nothing.
 use Prim.Native.Nat.{ℕ, _+_, _*_}
-use mathlib.Core.List.{List}
+use mathlib.Core.Path.{_≡_}
+use mathlib.Core.List.{List, [], _∷_}
 use lib.ListN.{getD, take, drop}
 use Rattle.card.specs.declared.Card.{Card}
+use Rattle.card.specs.Card.{card}
 use Rattle.card_list.specs.declared.NamePlace.{NamePlace}
 
 -- ten numbers a curve
@@ -28,6 +30,12 @@ cardFrom list at =
 -- the card with the eight numbers of a body
 abbrev pub cardOf : List ℕ → Card
 cardOf numbers = cardFrom numbers 0
+
+-- THEOREM (proofs/EightNumbers.antt): they are the card's, in the card's order
+abbrev pub EightNumbers : Type 0
+EightNumbers =
+    (profile terrain R L v W step unit : ℕ) →
+    cardOf (profile ∷ terrain ∷ R ∷ L ∷ v ∷ W ∷ step ∷ unit ∷ []) ≡ card profile terrain R L v W step unit
 
 -- the card of a curve in a list, counted from 0: behind the place and the length of its name
 abbrev pub cardIn : List ℕ → ℕ → Card

@@ -46,7 +46,8 @@ rounded-half tie {u} unit x proper =
     let f = floor-is (pos 2 *ℤ x .num +ℤ (pos d -ℤ pos (taken tie))) (2 * d) (omega (arith, mul-pos proper unit)) in
     omega arith
 
-taken-most : (tie : Tie) → taken tie ≤ 1
+-- what a rule takes off the numerator
+pub taken-most : (tie : Tie) → taken tie ≤ 1
 taken-most lower = omega arith
 taken-most higher = omega arith
 

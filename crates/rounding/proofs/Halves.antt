@@ -9,7 +9,7 @@ use Rattle.exact.specs.Parts.{up, dn}
 use Rattle.exact.specs.Rounding.{Tie, floorDiv, taken, rounded}
 use Rattle.exact.proofs.Integers.{add-parts, sub-parts, mul-parts, parts-eq}
 use Rattle.exact.proofs.Floor.{Floor, floor-is}
-use Rattle.rounding.proofs.Sizes.{taken-most}
+use Rattle.exact.proofs.Rounded.{taken-most}
 
 -- the quotient downwards is the only one
 at-most : {a : ℤ} {m : ℕ} {q k : ℤ} → 0 < m → Floor a m q → Floor a m k → up q + dn k ≤ up k + dn q

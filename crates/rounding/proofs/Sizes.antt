@@ -8,7 +8,7 @@ use lib.Dec.{leb}
 use lib.IntN.{ℤ, pos, negsuc, natAbs}
 use lib.Signed.{mag}
 use borrow.Author.Tests.{leb-true, ltb-true, le-leb, lt-ltb}
-use Rattle.exact.specs.Rounding.{Tie, lower, higher, taken, rounded}
+use Rattle.exact.specs.Rounding.{rounded}
 use Rattle.exact.specs.Parts.{up, dn}
 use Rattle.rounding.specs.Nearest.{mostOver, Roundable, roundable, nearestOf, NearestTheorem}
 
@@ -28,11 +28,6 @@ mag-parts (negsuc n) = omega arith
 pub mag-most : (z : ℤ) → mag z ≤ natAbs z
 mag-most (pos n) = omega arith
 mag-most (negsuc n) = omega arith
-
--- what a rule takes off the numerator
-pub taken-most : (tie : Tie) → taken tie ≤ 1
-taken-most lower = omega arith
-taken-most higher = omega arith
 
 module _ {num : ℤ} {den unit : ℕ} where
   test-holds : Roundable num den unit → roundable num den unit ≡ true

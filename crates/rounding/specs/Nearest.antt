@@ -4,7 +4,7 @@ use mathlib.Core.Path.{_≡_}
 use mathlib.Core.Bool.{Bool, cond, _&&_}
 use Prim.Native.Nat.{ℕ, _*_, _≤_, _<_}
 use lib.Dec.{leb, ltb}
-use lib.IntN.{ℤ, pos, _-ℤ_}
+use lib.IntN.{ℤ, pos, negℤ, _-ℤ_}
 use lib.Signed.{mag}
 use Rattle.exact.specs.Rounding.{Tie, lower, higher, rounded}
 use Rattle.rounding.specs.declared.Tie.{Tie as TieRule}
@@ -62,3 +62,19 @@ pub record NearestLaws (tie : Tie) (num : ℤ) (den unit : ℕ) : Type 0 where
 -- THEOREM (proofs/Sizes.antt): so it is with either rule, every number and every unit
 abbrev pub NearestTheorem : Type 0
 NearestTheorem = (tie : Tie) (num : ℤ) (den unit : ℕ) → NearestLaws tie num den unit
+
+-- halfway, above nought and below, in mm and cm, by the rule that the code's enum names: 172.5 and −67.5 mm, 22.5 and −22.5 cm
+-- THEOREM (proofs/Readings.antt)
+pub record HalfwayReadings : Type 0 where
+  pub lower-mm : nearestOf (tieOf Lower) 1 (pos 345000) 2 ≡ pos 172
+  pub lower-mm-below : nearestOf (tieOf Lower) 1 (negℤ (pos 135000)) 2 ≡ negℤ (pos 68)
+  pub lower-cm : nearestOf (tieOf Lower) 10 (pos 225000) 1 ≡ pos 22
+  pub lower-cm-below : nearestOf (tieOf Lower) 10 (negℤ (pos 225000)) 1 ≡ negℤ (pos 23)
+  pub higher-mm : nearestOf (tieOf Higher) 1 (pos 345000) 2 ≡ pos 173
+  pub higher-mm-below : nearestOf (tieOf Higher) 1 (negℤ (pos 135000)) 2 ≡ negℤ (pos 67)
+  pub higher-cm : nearestOf (tieOf Higher) 10 (pos 225000) 1 ≡ pos 23
+  pub higher-cm-below : nearestOf (tieOf Higher) 10 (negℤ (pos 225000)) 1 ≡ negℤ (pos 22)
+  -- a denominator of 0, and one micrometre too far
+  pub no-denominator : nearestOf lower 1 (pos 0) 0 ≡ pos 0
+  pub farthest : nearestOf lower 1 (pos 4194303) 1 ≡ pos 4194
+  pub too-far : nearestOf lower 1 (pos 4194304) 1 ≡ pos 0

@@ -5,3 +5,4 @@ pub mod ExactClimb
 pub mod Proper
 pub mod TabledClimb
 pub mod TurningRule
+pub mod FiguresComputed

@@ -1,3 +1,4 @@
 pub mod Lines
 pub mod Climbing
 pub mod Turning
+pub mod Figures

@@ -13,10 +13,10 @@ use Rattle.exact.specs.Exact.{Exact}
 use Rattle.exact.specs.Rounding.{Tie, floorDiv, taken, rounded}
 use Rattle.exact.proofs.Integers.{ints, add-parts, sub-parts, abs-parts}
 use Rattle.exact.proofs.Machine.{within-sfits, back, fits-as, nat-back}
-use Rattle.exact.proofs.Rounded.{rounded-size}
+use Rattle.exact.proofs.Rounded.{rounded-size, taken-most}
 use Rattle.rounding.specs.Nearest.{mostOver, reach, tieOf}
 use Rattle.rounding.proofs.Halves.{rounded-halved}
-use Rattle.rounding.proofs.Sizes.{taken-most, mag-parts}
+use Rattle.rounding.proofs.Sizes.{mag-parts}
 use Rattle.rounding.proofs.divided.Statement.{statement}
 use Rattle.rounding.proofs.divided.Tie as tie
 

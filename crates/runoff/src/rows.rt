@@ -1,4 +1,4 @@
-// The rows of a table: where they stand, their seven numbers, and how they are written.
+// The rows of a table: their seven numbers, and how they are written.
 use crate::ROW_WIDTH;
 use crate::Runoff;
 use crate::counts::height;

@@ -3,6 +3,7 @@ pub mod Product
 pub mod Every
 pub mod Steps
 pub mod Tests
+pub mod Replies
 pub mod Clothoids
 pub mod Unmet
 pub mod Entries

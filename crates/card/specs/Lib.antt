@@ -4,5 +4,6 @@ pub mod Profile
 pub mod Clothoid
 pub mod Rows
 pub mod Reasons
+pub mod Table
 pub mod Accepted
 pub mod Boundaries

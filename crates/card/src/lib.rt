@@ -39,6 +39,12 @@ pub struct Profile {
     pub added_mountain: u32,
 }
 
+// What a card and a lent table are answered: 0 and the count of rows, or the number of the reason and 0.
+pub struct Reply {
+    pub number: u32,
+    pub count: u32,
+}
+
 // The profile with this number, 1 to 5; any other number has a profile of noughts.
 pub fn profile_at(number: u32) -> Profile
     ensures { λ r. ⌜ r ≡ profileAt number ⌝ }

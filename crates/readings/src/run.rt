@@ -21,7 +21,7 @@ use crate::text::is_number;
 use crate::text::read_line;
 use book::BookReply;
 use card::Card;
-use runoff::Reply;
+use card::Reply;
 ghost use Prim.Native.Nat.{_≤_, _<_};
 ghost use lib.ListN.{length};
 

@@ -2,7 +2,7 @@
 ghost use Prim.Native.Nat.{_<_};
 use crate::text::Figure;
 use card::Card;
-use runoff::Reply;
+use card::Reply;
 
 // The table has room for 301 rows of seven numbers, the most that a card can have, and for some more that must stay as they are.
 pub(crate) const ROOM: usize = 2128;

@@ -10,6 +10,7 @@ use Rattle.card.specs.Profile.{profiles, profileAt}
 use Rattle.card.specs.Clothoid.{clothoids, leastLength}
 use Rattle.card.specs.Rows.{joined}
 use Rattle.card.specs.Reasons.{Test, first}
+use Rattle.card.specs.Table.{replyBy, tableBy}
 use Rattle.section.specs.Lines.{outerSlope, outerEdge, outerBrow, innerSlope, widening, innerEdge, innerShoulder, shoulderSlope, innerBrow}
 use Rattle.runoff.specs.Rows.{row, rows}
 use Rattle.card.specs.declared.Card.{Card}
@@ -42,7 +43,7 @@ unfolding refusal
 gives {ns = ns} {x} e = record { gives = λ none. first-among ns (ownTests x) refl none ∙ e }
 
 pub readings : Readings
-unfolding rounded profiles profileAt clothoids leastLength outerSlope outerEdge outerBrow innerSlope widening innerEdge innerShoulder shoulderSlope innerBrow row joined rows refusal replyNumber replyTo
+unfolding rounded profiles profileAt clothoids leastLength outerSlope outerEdge outerBrow innerSlope widening innerEdge innerShoulder shoulderSlope innerBrow row joined rows refusal replyNumber replyBy replyTo
 readings =
     record {
       ramp-accepted = refl;
@@ -69,7 +70,7 @@ readings =
     }
 
 pub boundaries : Boundaries
-unfolding rounded profiles profileAt clothoids leastLength outerSlope outerEdge outerBrow innerSlope widening innerEdge innerShoulder shoulderSlope innerBrow row joined rows refusal replyNumber replyTo tableAfter edges
+unfolding rounded profiles profileAt clothoids leastLength outerSlope outerEdge outerBrow innerSlope widening innerEdge innerShoulder shoulderSlope innerBrow row joined rows refusal replyNumber replyBy replyTo tableBy tableAfter edges
 boundaries =
     record {
       own = refl;

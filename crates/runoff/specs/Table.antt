@@ -1,14 +1,13 @@
 -- Document 01, "What a turned-away card or book says": what a card and a lent table are answered, and the table afterwards.
 -- Assumes nothing.
-use mathlib.Core.Bool.{cond}
-use mathlib.Core.List.{List, _++_}
+use mathlib.Core.List.{List}
 use Prim.Native.Nat.{ℕ, _*_}
-use lib.Dec.{eqb}
 use lib.IntN.{ℤ}
-use lib.ListN.{length, drop}
+use lib.ListN.{length}
 use Rattle.card.specs.declared.Card.{Card}
+use Rattle.card.specs.declared.Reply.{Reply}
 use Rattle.card.specs.Reasons.{first}
-use Rattle.runoff.specs.declared.Reply.{Reply}
+use Rattle.card.specs.Table.{replyBy, tableBy}
 use Rattle.runoff.specs.Rows.{rowCount, rowWidth, rows}
 use Rattle.runoff.specs.Refusal.{tests}
 
@@ -16,12 +15,10 @@ use Rattle.runoff.specs.Refusal.{tests}
 unfoldable pub replyNumber : Card → ℕ → ℕ
 replyNumber card room = first (tests card room)
 
--- an accepted card gives number 0 and the count of rows; a refused card gives its number and count 0 (the struct Reply of src/lib.rt)
+-- an accepted card gives number 0 and the count of rows; a refused card gives its number and count 0
 unfoldable pub replyTo : Card → ℕ → Reply
-replyTo card room =
-    record { number = replyNumber card room; count = cond (eqb (replyNumber card room) 0) (rowCount card) 0 }
+replyTo card room = replyBy (replyNumber card room) (rowCount card)
 
 -- accepted: the rows, and the numbers after the last row untouched; refused: the whole table untouched
 unfoldable pub tableAfter : Card → List ℤ → List ℤ
-tableAfter card table =
-    cond (eqb (replyNumber card (length table)) 0) (rows card ++ drop (rowWidth * rowCount card) table) table
+tableAfter card table = tableBy (replyNumber card (length table)) (rowWidth * rowCount card) (rows card) table

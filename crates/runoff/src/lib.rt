@@ -9,6 +9,7 @@ use crate::conditions::is_too_steep;
 use crate::rows::write_rows;
 use card::Card;
 use card::Profile;
+use card::Reply;
 use card::added_slope;
 use card::check_after;
 use card::check_before;
@@ -52,12 +53,6 @@ pub struct Runoff {
 pub enum Made {
     Accepted(Runoff),
     Refused(u32),
-}
-
-// What a card and a lent table are answered: 0 and the count of rows, or the number of the reason and 0.
-pub struct Reply {
-    pub number: u32,
-    pub count: u32,
 }
 
 // 0 for an accepted card, else the number of the first of its own reasons, 1 to 10.

@@ -4,7 +4,7 @@ use mathlib.Core.Path.{_≡_, refl}
 use lib.IntN.{pos, _*ℤ_}
 use Rattle.exact.specs.Exact.{Exact, _≈_}
 use Rattle.card.specs.Profile.{profiles, profileAt}
-use Rattle.section.specs.Lines.{Section, outerSlope, outerEdge, outerBrow, innerSlope, widening, innerEdge, innerShoulder, shoulderSlope, innerBrow}
+use Rattle.section.specs.Lines.{outerSlope, outerEdge, outerBrow, innerSlope, widening, innerEdge, innerShoulder, shoulderSlope, innerBrow}
 use Rattle.section.specs.Figures.{Figures}
 
 -- two fractions whose cross products compute to the same number

@@ -7,7 +7,7 @@ use mathlib.Core.List.{List, [], _∷_, _++_}
 use lib.Dec.{eqb}
 use lib.IntN.{ℤ}
 use lib.ListN.{length, take, drop}
-use Rattle.runoff.specs.declared.Reply.{Reply}
+use Rattle.card.specs.declared.Reply.{Reply}
 use Rattle.runoff.specs.Rows.{rowWidth}
 use Rattle.book.specs.declared.BookReply.{BookReply}
 use Rattle.book.specs.Body.{endOf}

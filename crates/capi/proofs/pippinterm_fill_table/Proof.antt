@@ -6,7 +6,7 @@ use mathlib.Core.List.{List}
 use lib.IntN.{ℤ}
 use lib.ListN.{length}
 use Rattle.card.specs.declared.Card.{Card}
-use Rattle.runoff.specs.declared.Reply.{Reply}
+use Rattle.card.specs.declared.Reply.{Reply}
 use Rattle.runoff.specs.Table.{replyTo, tableAfter}
 use Rattle.runoff.specs.Climbing.{ClimbingTable}
 use Rattle.capi.proofs.pippinterm_fill_table.Statement.{statement}

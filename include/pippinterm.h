@@ -44,7 +44,9 @@ extern "C" {
 /* The numbers of a row, in their order: the station in mm, the others in
    counts of the card's unit, each rounded once from its exact fraction to the
    nearest, halfway to the lower, also below nought. Heights count from the
-   inner brow at station 0. */
+   inner brow at station 0. The inner brow is the shoulder less the widening
+   away from the inner edge, and no less than the least shoulder: where that is
+   more, the bank is widened. */
 #define PIPPINTERM_ROW_STATION 0
 #define PIPPINTERM_ROW_WIDENING 1
 #define PIPPINTERM_ROW_INNER_BROW 2
@@ -97,7 +99,7 @@ extern "C" {
 #define PIPPINTERM_REFUSED_CLOTHOID 4         /* clothoid: shorter than the least length, or above 300000 */
 #define PIPPINTERM_REFUSED_FULL_SLOPE 5       /* full slope: below the profile's crown slope, or above 60 */
 #define PIPPINTERM_REFUSED_WIDENING 6         /* widening: above 3500, or above 0 with a radius above 1000 */
-#define PIPPINTERM_REFUSED_NARROW_SHOULDER 7  /* narrow shoulder: widening + least shoulder above the shoulder */
+#define PIPPINTERM_REFUSED_NARROW_SHOULDER 7  /* narrow shoulder: no longer given; the bank is widened instead */
 #define PIPPINTERM_REFUSED_ADDED_SLOPE 8      /* added slope: half the carriageway x (crown slope + full
                                                  slope) above added slope x length of the clothoid */
 #define PIPPINTERM_REFUSED_STEP 9             /* step: below 1000 or above 20000 */
@@ -114,8 +116,8 @@ extern "C" {
 
 /*
  * Checks a card.
- * Gives 0 where none of the reasons 1 to 10 is met, else the number of the
- * first one that is, in rising order. Changes nothing.
+ * Gives 0 where none of the reasons 1 to 6 and 8 to 10 is met, else the number
+ * of the first one that is, in rising order. Changes nothing.
  */
 uint32_t pippinterm_check_card(const uint32_t card[PIPPINTERM_CARD_NUMBERS]);
 
@@ -125,8 +127,8 @@ uint32_t pippinterm_check_card(const uint32_t card[PIPPINTERM_CARD_NUMBERS]);
  * and the rows stand in the table from its start, seven numbers each, at
  * stations 0, step, 2 x step and so on below the clothoid's end, then one at
  * its end. The table's numbers after the last row are as they were.
- * Else gives the number of the first reason met, 1 to 11 in rising order:
- * *count is then 0, and the table is as it was.
+ * Else gives the number of the first reason met, 1 to 6 and 8 to 11 in rising
+ * order: *count is then 0, and the table is as it was.
  * table_length is in numbers, not in bytes, and may be any, 0 too.
  */
 uint32_t pippinterm_fill_table(const uint32_t card[PIPPINTERM_CARD_NUMBERS],

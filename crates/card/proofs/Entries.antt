@@ -68,6 +68,7 @@ module _ (n : ℕ) (least : 1 ≤ n) (most : n ≤ 5) where
         half-least = leb-true 2250 _ (passes (λ r. leb 2250 (r .«half_width»)) refl);
         half-most = leb-true _ 3750 (passes (λ r. leb (r .«half_width») 3750) refl);
         shoulder-most = leb-true _ 3750 (passes (λ r. leb (r .«shoulder_width») 3750) refl);
+        kept-most = leb-true _ _ (passes (λ r. leb (r .«least_shoulder») (r .«shoulder_width»)) refl);
         crown-least = leb-true 20 _ (passes (λ r. leb 20 (r .«crown_slope»)) refl);
         crown-most = leb-true _ 30 (passes (λ r. leb (r .«crown_slope») 30) refl);
         side-least = leb-true _ _ (passes (λ r. leb (r .«crown_slope») (r .«shoulder_slope»)) refl);

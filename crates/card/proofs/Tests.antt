@@ -11,7 +11,7 @@ use lib.ListN.{length, getD}
 use borrow.Author.Tests.{ltb-true, ltb-false, eqb-true, eqb-false, not-true, ne-eqb, le-ltb}
 use Rattle.card.specs.declared.Card.{Card}
 use Rattle.card.specs.Reasons.{Test, test, first, testsBefore, testsAfter, testsRoom, refusalBefore, refusalAfter, refusalRoom}
-use Rattle.card.proofs.Every.{every, here, later, at-place}
+use Rattle.card.proofs.Every.{every, here, later, at-place, of-two}
 
 abbrev pub numbered : Test → Bool
 numbered t = ltb 0 (t .number)
@@ -32,6 +32,15 @@ none-met (x ∷ xs) t e =
 
 pub passes : (ts : List Test) → every numbered ts ≡ true → first ts ≡ 0 → (k : ℕ) → k < length ts → getD ts k (test 0 false) .met ≡ false
 passes ts t e k h = not-true _ (at-place unmet ts (test 0 false) (none-met ts t e) k h)
+
+-- what 0 and every number of a list pass, the number that it gives passes
+module _ (f : ℕ → Bool) where
+  abbrev number : Test → Bool
+  number t = f (t .number)
+
+  pub first-passes : (ts : List Test) → f 0 ≡ true → every number ts ≡ true → f (first ts) ≡ true
+  first-passes [] z t = z
+  first-passes (x ∷ xs) z t = of-two f (x .met) (x .number) (first xs) (here number x xs t) (first-passes xs z (later number x xs t))
 
 -- ---- the number n of one list, or the number m of the list behind it
 abbrev pub then : ℕ → ℕ → ℕ

@@ -35,6 +35,7 @@ pub record Sizes (r : Profile) (added : ℕ) : Type 0 where
   pub half-least : 2250 ≤ r .«half_width»
   pub half-most : r .«half_width» ≤ 3750
   pub shoulder-most : r .«shoulder_width» ≤ 3750
+  pub kept-most : r .«least_shoulder» ≤ r .«shoulder_width»
   pub crown-least : 20 ≤ r .«crown_slope»
   pub crown-most : r .«crown_slope» ≤ 30
   pub side-least : r .«crown_slope» ≤ r .«shoulder_slope»

@@ -1,6 +1,7 @@
 -- The paper's words for comparing two whole numbers, as tests.
 -- Assumes nothing.
-use mathlib.Core.Bool.{Bool, not, _||_}
+use mathlib.Core.Bool.{Bool, false, not, _||_}
+use mathlib.Core.List.{List, [], _∷_}
 use Prim.Native.Nat.{ℕ}
 use lib.Dec.{ltb, eqb}
 
@@ -18,3 +19,8 @@ outside n a b = n below a || n above b
 -- n is neither a nor b
 abbrev pub neither : ℕ → ℕ → ℕ → Bool
 neither n a b = not (eqb n a || eqb n b)
+
+-- n is one of ns
+abbrev pub among : List ℕ → ℕ → Bool
+among [] n = false
+among (k ∷ ks) n = eqb n k || among ks n

@@ -44,15 +44,12 @@ module _ (card : Card) where
       let l = lists e in
       record {
         before = shared-rule card .before .0 (l .before);
-        shoulder = not-above _ _ .0 (passes (methodTests its card) refl (l .own) 0 (lit< tt));
-        added = not-above _ _ .0 (passes (methodTests its card) refl (l .own) 1 (lit< tt));
+        added = not-above _ _ .0 (passes (methodTests its card) refl (l .own) 0 (lit< tt));
         after = shared-rule card .after .0 (l .after);
       }
 
   none-own : AcceptedBy its card → first (methodTests its card) ≡ 0
-  none-own a =
-      let past7 = passed (at-start (methodTests its card)) refl (not-above _ _ .1 (a .shoulder)) in
-      passed past7 refl (not-above _ _ .1 (a .added)) .says
+  none-own a = passed (at-start (methodTests its card)) refl (not-above _ _ .1 (a .added)) .says
 
   not-refused : AcceptedBy its card → refusal card ≡ 0
   not-refused a = in-order ∙ rw (shared-rule card .before .1 (a .before), none-own a, shared-rule card .after .1 (a .after))

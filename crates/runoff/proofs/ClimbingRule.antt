@@ -50,13 +50,10 @@ module _ (card : Card) (passes : refusal card ≡ 0) where
         rows = λ i j h. at-stations (stationOf card i) (stationOf card j) (station-rises (card .clothoid) (card .step) i j h) (station-most (card .clothoid) (card .step) j);
       }
 
-  pub narrow : card .«full_widening» ≤ sectionOf card .c
-  narrow = omega (arith, accepted-rule card .exactly .0 passes .shoulder)
-
   accurate-row : (d : ℕ) → d ≤ card .clothoid → AccurateRow card d
   unfolding row
   accurate-row d h =
-      let lines = proper premises narrow (on-whole (sectionOf card) d h) in
+      let lines = proper premises (on-whole (sectionOf card) d h) in
       let is = accurate (card .unit) unit-some in
       record {
         station = refl;
@@ -75,4 +72,6 @@ pub accuracy-rule : AccuracyTheorem
 accuracy-rule = accurate-row
 
 pub turning-rule : TurningTheorem
-turning-rule card passes = turns (addedOf card) (sectionOf card) (premises card passes) (narrow card passes) (accepted-rule card .sizes passes .side-least)
+turning-rule card passes =
+    let z = accepted-rule card .sizes passes in
+    turns (addedOf card) (sectionOf card) (premises card passes) (z .kept-most) (z .side-least)

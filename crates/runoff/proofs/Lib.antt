@@ -1,5 +1,6 @@
 pub mod Accepts
 pub mod MadeNumber
+pub mod GivenNumbers
 pub mod ClimbingRule
 pub mod RowBlocks
 pub mod Limits

@@ -8,7 +8,6 @@ use Rattle.section.specs.Lines.{sectionOf}
 use Rattle.runoff.specs.Runoff.{runoffOf}
 use Rattle.runoff.specs.Reckoning.{sectionIn, Limits}
 use Rattle.runoff.proofs.Accepts.{accepted-rule}
-use Rattle.runoff.proofs.ClimbingRule.{narrow}
 
 pub same-section : (card : Card) → sectionIn (runoffOf card) ≡ sectionOf card
 unfolding runoffOf
@@ -30,6 +29,7 @@ module _ (card : Card) (passes : refusal card ≡ 0) where
         slope-most = a .before .slope-most;
         long = omega (arith, accepted-rule card .long passes);
         clothoid-most = a .before .clothoid-most;
-        narrow = narrow card passes;
+        kept-most = z .kept-most;
+        widening-most = a .before .widening-most;
         stages = refl;
       }

@@ -1,7 +1,7 @@
 -- Each height of a row as the code reckons it, with the bounds of every product on the way.
 -- Assumes nothing.
 use mathlib.Core.Path.{_≡_}
-use Prim.Native.Nat.{ℕ, _+_, _*_, _-_, _≤_, _<_}
+use Prim.Native.Nat.{ℕ, _+_, _*_, _-_, _≤_, _<_, max}
 use native.Mathlib.Nat.{mul-le-mul, mul-le-mul-right, mul-pos}
 use native.Mathlib.Omega.{arith}
 use Rattle.exact.specs.Exact.{whole, _⊗_}
@@ -44,15 +44,17 @@ module _ {r : Runoff} {d : ℕ} {s : Slopes} {u : ℕ} (z : Ready r d s u) where
   abbrev lane : ℕ
   lane = (x .h * x .L + x .W * d) * s .inner
 
+  abbrev kept : ℕ
+  kept = max (x .m * x .L) (x .c * x .L - x .W * d)
+
   abbrev side : ℕ
-  side = (x .c * x .L - x .W * d) * s .shoulder
+  side = kept * s .shoulder
 
   axis-most : s .axis ≤ 337500
   axis-most = omega (arith, z .slopes .axis-is, axis-high (z .limits))
 
-  -- the widening takes no more than the shoulder
-  pub widened : x .W * d ≤ x .c * x .L
-  widened = mul-le-mul (z .limits .narrow) (z .on)
+  widened : x .W * d ≤ 3500 * x .L
+  widened = mul-le-mul (z .limits .widening-most) (z .on)
 
   long : x .L * 1 ≡ x .L
   long = omega arith
@@ -65,7 +67,7 @@ module _ {r : Runoff} {d : ℕ} {s : Slopes} {u : ℕ} (z : Ready r d s u) where
             record {
               some = z .limits .long;
               few = omega (arith, z .limits .clothoid-most);
-              high = omega (arith, widened, mul-le-mul-right (x .L) (z .limits .shoulder-most), z .limits .long);
+              high = omega (arith, widened, z .limits .long);
               low = omega (arith, z .limits .long);
               unit = z .unit;
               units = z .units;
@@ -106,10 +108,13 @@ module _ {r : Runoff} {d : ℕ} {s : Slopes} {u : ℕ} (z : Ready r d s u) where
 
   -- what the inner heights are made of
   pub lane-few : x .h * x .L + x .W * d ≤ 7500 * x .L
-  lane-few = omega (arith, widened, mul-le-mul-right (x .L) (z .limits .shoulder-most), mul-le-mul-right (x .L) (z .limits .half-most))
+  lane-few = omega (arith, widened, mul-le-mul-right (x .L) (z .limits .half-most))
 
   pub shoulder-few : x .c * x .L ≤ 3750 * x .L
   shoulder-few = mul-le-mul-right (x .L) (z .limits .shoulder-most)
+
+  pub least-few : x .m * x .L ≤ x .c * x .L
+  least-few = mul-le-mul-right (x .L) (z .limits .kept-most)
 
   pub long-few : x .L ≤ 300000
   long-few = z .limits .clothoid-most
@@ -118,7 +123,7 @@ module _ {r : Runoff} {d : ℕ} {s : Slopes} {u : ℕ} (z : Ready r d s u) where
   lane-most = omega (arith, mul-le-mul lane-few (z .slopes .inner-high))
 
   side-most : side ≤ 225000 * full
-  side-most = omega (arith, mul-le-mul {n₁ = x .c * x .L - x .W * d} {n₂ = 3750 * x .L} (omega (arith, shoulder-few)) (z .slopes .shoulder-high))
+  side-most = omega (arith, mul-le-mul {n₁ = kept} {n₂ = 3750 * x .L} (omega (arith, shoulder-few, least-few)) (z .slopes .shoulder-high))
 
   inner-sized : (b : ℕ) → b ≤ lane + side → Sized (s .axis * full) b full u
   inner-sized b h =
@@ -143,6 +148,6 @@ module _ {r : Runoff} {d : ℕ} {s : Slopes} {u : ℕ} (z : Ready r d s u) where
       record {
         is =
             rw (z .slopes .axis-is)
-            (rw long at (inner-brow x (is-one d) (z .limits .long) (z .slopes .inner-is) (omega (arith, widened)) (z .slopes .shoulder-is)));
+            (rw long at (inner-brow x (is-one d) (z .limits .long) (z .slopes .inner-is) (z .slopes .shoulder-is)));
         sized = inner-sized (lane + side) (omega arith);
       }

@@ -13,7 +13,6 @@ use Rattle.runoff.specs.Refusal.{refusal}
 -- each reason turned round, in the order of the list
 pub record AcceptedBy (r : Profile) (card : Card) : Type 0 where
   pub before : PassedBefore r card
-  pub shoulder : card .«full_widening» + r .«least_shoulder» ≤ r .«shoulder_width»
   pub added : r .«half_width» * (r .«crown_slope» + card .«full_slope») ≤ addedSlope r (card .terrain) * card .clothoid
   pub after : PassedAfter card
 

@@ -1,5 +1,5 @@
 -- The reasons at their edges: a card on either side of every bound, the extreme cards, and cards that meet two reasons at once;
--- and a table at its edges. The numbers come from document 01's tables and from 002, not from the definitions.
+-- and a table at its edges. The numbers come from document 01's tables, from document 02 and from 002, not from the definitions.
 -- Assumes nothing.
 use mathlib.Core.Path.{_≡_}
 use mathlib.Core.List.{List, [], _∷_, _++_, map}
@@ -68,21 +68,26 @@ edges =
     edge (card 3 1 700 120000 61 400 20000 10) 5 ∷
     edge (card 3 1 700 120000 greatest 400 20000 10) 5 ∷
     -- 6, widening: W above 3500, or above 0 with R above 1000
-    edge (card 3 1 700 120000 40 3500 20000 10) 7 ∷
+    edge (card 3 1 700 120000 40 3500 20000 10) 0 ∷
     edge (card 3 1 700 120000 40 3501 20000 10) 6 ∷
     edge (card 3 1 700 120000 40 greatest 20000 10) 6 ∷
     edge (card 3 1 1000 120000 40 1 20000 10) 0 ∷
     edge (card 3 1 1001 120000 40 1 20000 10) 6 ∷
     edge (card 3 1 1001 120000 40 0 20000 10) 0 ∷
-    -- 7, narrow shoulder: c less W is below m
+    -- 7, narrow shoulder, is no longer given: c less W may be m, below m, or below nought
     edge (card 3 1 700 120000 40 1000 20000 10) 0 ∷
-    edge (card 3 1 700 120000 40 1001 20000 10) 7 ∷
+    edge (card 3 1 700 120000 40 1001 20000 10) 0 ∷
+    edge (card 3 1 700 120000 40 2001 20000 10) 0 ∷
     edge (card 1 1 700 120000 40 2250 20000 10) 0 ∷
-    edge (card 1 1 700 120000 40 2251 20000 10) 7 ∷
+    edge (card 1 1 700 120000 40 2251 20000 10) 0 ∷
+    edge (card 1 1 700 120000 40 3500 20000 10) 0 ∷
+    edge (card 2 1 700 120000 40 3500 20000 10) 0 ∷
     edge (card 4 1 700 120000 40 1000 20000 10) 0 ∷
-    edge (card 4 1 700 120000 40 1001 20000 10) 7 ∷
+    edge (card 4 1 700 120000 40 1001 20000 10) 0 ∷
+    edge (card 4 1 700 120000 40 3500 20000 10) 0 ∷
     edge (card 5 1 700 120000 40 750 20000 10) 0 ∷
-    edge (card 5 1 700 120000 40 751 20000 10) 7 ∷
+    edge (card 5 1 700 120000 40 751 20000 10) 0 ∷
+    edge (card 5 1 700 120000 40 3500 20000 10) 0 ∷
     -- 8, added slope: h × (p + v) above added slope × L
     edge (card 1 1 125 60000 60 0 20000 10) 0 ∷
     edge (card 1 1 125 59999 60 0 20000 10) 8 ∷
@@ -112,7 +117,7 @@ edges =
     edge (card 4 2 100 50000 30 0 20000 1) 0 ∷
     edge (card 4 2 100 50000 61 0 20000 1) 5 ∷
     edge (card 2 2 100 50000 40 1000 20000 1) 0 ∷
-    edge (card 2 2 100 50000 40 1001 20000 1) 7 ∷
+    edge (card 2 2 100 50000 40 1001 20000 1) 0 ∷
     edge (card 2 2 100 50000 40 3501 20000 1) 6 ∷
     -- rising order, first one met: two neighbours at once
     edge (card 0 0 700 120000 40 400 20000 10) 1 ∷
@@ -120,7 +125,8 @@ edges =
     edge (card 3 1 59 0 40 400 20000 10) 3 ∷
     edge (card 3 1 700 0 0 400 20000 10) 4 ∷
     edge (card 3 1 700 120000 0 3501 20000 10) 5 ∷
-    edge (card 1 1 125 59999 60 2251 20000 10) 7 ∷
+    edge (card 1 1 125 59999 60 3501 20000 10) 6 ∷
+    edge (card 1 1 125 59999 60 2251 20000 10) 8 ∷
     edge (card 1 1 125 59999 60 0 0 10) 8 ∷
     edge (card 3 1 700 120000 40 400 0 0) 9 ∷ []
 
@@ -146,3 +152,17 @@ pub record Boundaries : Type 0 where
   pub steep-row :
       cells (rowOf (card 2 1 200 70000 60 800 20000 10) 70000)
       ≡ pos 70000 ∷ pos 80 ∷ negℤ (pos 19) ∷ negℤ (pos 9) ∷ pos 17 ∷ pos 38 ∷ pos 53 ∷ []
+  -- a card that gave 7: category III with 1.2 m of widening, where the shoulder is c less the widening, and where it is m
+  pub left-row :
+      cells (rowOf (card 2 1 100 60000 60 1200 5000 1) 30000)
+      ≡ pos 30000 ∷ pos 600 ∷ pos 12 ∷ pos 88 ∷ pos 170 ∷ pos 240 ∷ pos 290 ∷ []
+  pub kept-row :
+      cells (rowOf (card 2 1 100 60000 60 1200 5000 1) 60000)
+      ≡ pos 60000 ∷ pos 1200 ∷ negℤ (pos 202) ∷ negℤ (pos 112) ∷ pos 170 ∷ pos 380 ∷ pos 530 ∷ []
+  -- and one whose widening is above its shoulder
+  pub widest-left-row :
+      cells (rowOf (card 5 1 60 60000 60 3500 1000 1) 6000)
+      ≡ pos 6000 ∷ pos 350 ∷ pos 10 ∷ pos 94 ∷ pos 172 ∷ pos 125 ∷ pos 88 ∷ []
+  pub widest-kept-row :
+      cells (rowOf (card 5 1 60 60000 60 3500 1000 10) 60000)
+      ≡ pos 60000 ∷ pos 350 ∷ negℤ (pos 23) ∷ negℤ (pos 17) ∷ pos 17 ∷ pos 31 ∷ pos 41 ∷ []

@@ -1,6 +1,7 @@
 pub mod Rows
 pub mod Refusal
 pub mod Table
+pub mod Numbers
 pub mod Runoff
 pub mod Reckoning
 pub mod Accepted

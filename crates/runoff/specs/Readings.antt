@@ -1,25 +1,21 @@
--- Document 01, "Readings at the edges": the starred ones, in the paper's order, as one statement about the definitions.
+-- Document 01, "Readings at the edges": the starred ones, in the paper's order, as one statement about the definitions; the last as document 02,
+-- Slip 1, changes it.
 -- Numbers left out of a reading are any numbers such that no other refusal applies, or any numbers at all where nothing depends on them.
 -- Assumes nothing.
 use mathlib.Core.Path.{_≡_}
-use mathlib.Core.Bool.{Bool, true, false, not, cond, _||_}
+use mathlib.Core.Bool.{Bool, true, false, not, cond}
 use mathlib.Core.List.{List, [], _∷_}
-use Prim.Native.Nat.{ℕ}
-use lib.Dec.{eqb}
+use Prim.Native.Nat.{ℕ, _≤_}
 use lib.IntN.{ℤ, pos, negℤ}
 use Rattle.card.specs.declared.Card.{Card}
 use Rattle.card.specs.Card.{card, ramp}
+use Rattle.card.specs.Words.{among}
 use Rattle.card.specs.Clothoid.{leastLength}
 use Rattle.card.specs.Reasons.{Test, first}
 use Rattle.section.specs.Lines.{sectionOf, isEven}
 use Rattle.runoff.specs.Rows.{rowCount, rowOf, rows}
 use Rattle.runoff.specs.Refusal.{ownTests, refusal}
 use Rattle.runoff.specs.Table.{replyTo}
-
--- n is one of ns
-abbrev pub among : List ℕ → ℕ → Bool
-among [] n = false
-among (k ∷ ks) n = eqb n k || among ks n
 
 -- the reasons whose numbers are not in ns
 abbrev pub keep : (ℕ → Bool) → List Test → List Test
@@ -76,7 +72,7 @@ pub record Readings : Type 0 where
   pub slope-29 : (terrain R L W step unit : ℕ) → Gives 5 (5 ∷ []) (card 4 terrain R L 29 W step unit)
   pub slope-30 : (terrain R L W step unit : ℕ) → Gives 0 (5 ∷ []) (card 4 terrain R L 30 W step unit)
   pub slope-61 : (terrain R L W step unit : ℕ) → Gives 5 (5 ∷ []) (card 4 terrain R L 61 W step unit)
-  -- profile 2: W 1000 passes, 1001 gives 7, 3501 gives 6 (where 7 is met too)
-  pub widening-1000 : (terrain R L v step unit : ℕ) → Gives 0 (7 ∷ []) (card 2 terrain R L v 1000 step unit)
-  pub widening-1001 : (terrain R L v step unit : ℕ) → Gives 7 (7 ∷ []) (card 2 terrain R L v 1001 step unit)
+  -- profile 2: W 1000 and 1001 pass (where R takes a widening), 3501 gives 6
+  pub widening-1000 : (terrain R L v step unit : ℕ) → R ≤ 1000 → Gives 0 (6 ∷ 7 ∷ []) (card 2 terrain R L v 1000 step unit)
+  pub widening-1001 : (terrain R L v step unit : ℕ) → R ≤ 1000 → Gives 0 (6 ∷ 7 ∷ []) (card 2 terrain R L v 1001 step unit)
   pub widening-3501 : (terrain R L v step unit : ℕ) → Gives 6 (6 ∷ 7 ∷ []) (card 2 terrain R L v 3501 step unit)

@@ -20,6 +20,7 @@ sectionIn r =
       c = r .«shoulder_width»;
       p = r .«crown_slope»;
       q = r .«shoulder_slope»;
+      m = r .«least_shoulder»;
       v = r .«full_slope»;
       W = r .«full_widening»;
       L = r .clothoid;
@@ -40,7 +41,8 @@ pub record Limits (r : Runoff) : Type 0 where
   pub slope-most : r .«full_slope» ≤ 60
   pub long : 1 ≤ r .clothoid
   pub clothoid-most : r .clothoid ≤ 300000
-  pub narrow : r .«full_widening» ≤ r .«shoulder_width»
+  pub kept-most : r .«least_shoulder» ≤ r .«shoulder_width»
+  pub widening-most : r .«full_widening» ≤ 3500
   pub stages : r .stages ≡ stagesOf (sectionIn r)
 
 -- the slope s is x: its parts, and bounds for the sums that it goes into

@@ -1,5 +1,5 @@
--- Document 01, "What a turned-away card or book says": the reasons 1 to 11, as one list of numbered tests. Those that every method shares
--- are the card's; 7 and 8 stand between them.
+-- Document 01, "What a turned-away card or book says": the reasons 1 to 11 without 7, which document 02, Slip 1, takes out, as one list of
+-- numbered tests. Those that every method shares are the card's; 8 stands between them.
 -- Assumes nothing.
 use mathlib.Core.Bool.{Bool}
 use mathlib.Core.List.{List, [], _∷_, _++_}
@@ -11,23 +11,17 @@ use Rattle.card.specs.Profile.{profileAt, addedSlope}
 use Rattle.card.specs.Reasons.{Test, test, first, testsBefore, testsAfter, testsRoom}
 use Rattle.runoff.specs.Rows.{rowCount, rowWidth}
 
--- 7: c less W is below m (tested as W + m above c)
-abbrev pub tooNarrow : Profile → ℕ → Bool
-tooNarrow r W = (W + r .«least_shoulder») above (r .«shoulder_width»)
-
 -- 8: h × (p + v) above added slope × L
 abbrev pub tooSteep : Profile → ℕ → ℕ → ℕ → Bool
 tooSteep r added v L = (r .«half_width» * (r .«crown_slope» + v)) above (added * L)
 
--- the reasons of this method, for a card with the profile r
+-- the reason of this method, for a card with the profile r
 abbrev pub methodTests : Profile → Card → List Test
 methodTests r card =
-    -- narrow shoulder
-    test 7 (tooNarrow r (card .«full_widening»)) ∷
     -- added slope
     test 8 (tooSteep r (addedSlope r (card .terrain)) (card .«full_slope») (card .clothoid)) ∷ []
 
--- the card's own reasons: 1 to 6, then 7 and 8, then 9 and 10
+-- the card's own reasons: 1 to 6, then 8, then 9 and 10
 abbrev pub ownTests : Card → List Test
 ownTests card = testsBefore card ++ (methodTests (profileAt (card .profile)) card ++ testsAfter card)
 

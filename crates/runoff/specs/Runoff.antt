@@ -23,6 +23,7 @@ runoffBy x =
       stages = stagesOf x;
       «half_width» = x .h;
       «shoulder_width» = x .c;
+      «least_shoulder» = x .m;
       «crown_slope» = x .p;
       «shoulder_slope» = x .q;
       «full_slope» = x .v;

@@ -1,19 +1,8 @@
-// The conditions of the refusals 7 and 8.
+// The condition of the refusal 8.
 use card::Profile;
 ghost use mathlib.Core.Path.{_≡_};
 ghost use Prim.Native.Nat.{_≤_};
-ghost use Rattle.runoff.specs.Refusal.{tooNarrow, tooSteep};
-
-// The sum is taken in 64 bits, so that no widening overflows it.
-pub(crate) fn is_too_narrow(p: Profile, widening: u32) -> bool
-    ensures { λ r. ⌜ r ≡ tooNarrow p widening ⌝ }
-{
-    let least = p.least_shoulder;
-    let shoulder = p.shoulder_width;
-    let needed = widening as u64 + least as u64;
-    let there = shoulder as u64;
-    needed > there
-}
+ghost use Rattle.runoff.specs.Refusal.{tooSteep};
 
 // The products are taken in 64 bits; with the slopes that pass reason 5 no width or length overflows them.
 pub(crate) fn is_too_steep(p: Profile, added: u32, slope: u32, clothoid: u32) -> bool

@@ -4,7 +4,6 @@ mod counts;
 mod rows;
 mod turning;
 
-use crate::conditions::is_too_narrow;
 use crate::conditions::is_too_steep;
 use crate::rows::write_rows;
 use card::Card;
@@ -42,6 +41,7 @@ pub struct Runoff {
     pub stages: Stages,
     pub half_width: u64,
     pub shoulder_width: u64,
+    pub least_shoulder: u64,
     pub crown_slope: u64,
     pub shoulder_slope: u64,
     pub full_slope: u64,
@@ -55,7 +55,7 @@ pub enum Made {
     Refused(u32),
 }
 
-// 0 for an accepted card, else the number of the first of its own reasons, 1 to 10.
+// 0 for an accepted card, else the number of the first of its own reasons: 1 to 6, 8, 9 or 10.
 pub fn check_card(card: Card) -> u32
     ensures { λ r. ⌜ r ≡ refusal card ⌝ }
 {
@@ -70,7 +70,7 @@ pub fn check_card(card: Card) -> u32
     check_after(card)
 }
 
-// The reasons 7 and 8, of a card that those before let pass.
+// The reason 8, of a card that those before let pass.
 fn check_section(card: Card) -> u32
     requires { ⌜ refusalBefore card ≡ 0 ⌝ }
     ensures { λ r. ⌜ r ≡ first (methodTests (profileAt (card .profile)) card) ⌝ }
@@ -79,11 +79,7 @@ fn check_section(card: Card) -> u32
     let terrain = card.terrain;
     let clothoid = card.clothoid;
     let slope = card.full_slope;
-    let widening = card.full_widening;
     let p = profile_at(profile);
-    if is_too_narrow(p, widening) {
-        return 7;
-    }
     let added = added_slope(p, terrain);
     if is_too_steep(p, added, slope, clothoid) {
         return 8;
@@ -118,6 +114,7 @@ fn runoff_of(card: Card) -> Runoff
     let p = profile_at(profile);
     let half_width = p.half_width as u64;
     let shoulder_width = p.shoulder_width as u64;
+    let least_shoulder = p.least_shoulder as u64;
     let crown_slope = p.crown_slope as u64;
     let shoulder_slope = p.shoulder_slope as u64;
     let full_slope = card.full_slope as u64;
@@ -128,6 +125,7 @@ fn runoff_of(card: Card) -> Runoff
         stages,
         half_width,
         shoulder_width,
+        least_shoulder,
         crown_slope,
         shoulder_slope,
         full_slope,

@@ -3,6 +3,7 @@ use crate::ROW_WIDTH;
 use crate::Runoff;
 use crate::counts::height;
 use crate::turning::Slopes;
+use crate::turning::at_least;
 use crate::turning::slopes_at;
 use card::Card;
 use card::station_of;
@@ -52,13 +53,14 @@ fn outer_sides(r: Runoff, d: u64, s: Slopes, unit: u64) -> Sides
     Sides { brow, edge }
 }
 
-// The axis less the widened lane times the inner slope, and less the rest of the shoulder times its slope too.
+// The axis less the widened lane times the inner slope, and less what is kept of the shoulder, at least m, times its slope too.
 fn inner_sides(r: Runoff, d: u64, s: Slopes, unit: u64) -> Sides
     requires { ⌜ Ready r d s unit ⌝ }
     ensures { λ x. ⌜ x ≡ innerSides (sectionIn r) d unit ⌝ }
 {
     let h = r.half_width;
     let c = r.shoulder_width;
+    let m = r.least_shoulder;
     let l = r.clothoid;
     let w = r.full_widening;
     let inner = s.inner;
@@ -70,7 +72,8 @@ fn inner_sides(r: Runoff, d: u64, s: Slopes, unit: u64) -> Sides
     let base = axis * full;
     let lane = (h * l + widening) * inner;
     let edge = height(base, lane, full, unit);
-    let side = (c * l - widening) * shoulder;
+    let kept = at_least(m * l, c * l, widening);
+    let side = kept * shoulder;
     let brow = height(base, lane + side, full, unit);
     Sides { brow, edge }
 }

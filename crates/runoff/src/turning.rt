@@ -24,10 +24,15 @@ pub(crate) struct Slopes {
     pub over: u64,
 }
 
-fn greater(a: u64, b: u64) -> u64
-    ensures { λ r. ⌜ r ≡ max a b ⌝ }
+// The greater of least and up - down, which may be below nought.
+pub(crate) fn at_least(least: u64, up: u64, down: u64) -> u64
+    ensures { λ r. ⌜ r ≡ max least (up - down) ⌝ }
 {
-    if a < b { b } else { a }
+    if up < down {
+        return least;
+    }
+    let rest = up - down;
+    if least < rest { rest } else { least }
 }
 
 // In a straight line from -p at 0 to v at L.
@@ -96,18 +101,7 @@ fn slope_at(r: Runoff, d: u64) -> Slope
     }
 }
 
-// The greater of p and the slope, over the slope's `over`: the inner lane is not turned before the outer slope is p.
-fn inner_of(p: u64, s: Slope) -> u64
-    requires { ⌜ (p * s .over ≤ 30 * 900000) × (s .down ≤ 30 * 900000) ⌝ }
-    ensures { λ r. ⌜ r ≡ max (p * s .over) (s .up - s .down) ⌝ }
-{
-    let up = s.up;
-    let down = s.down;
-    let least = p * s.over;
-    if least + down < up { up - down } else { least }
-}
-
-// The axis, and every slope at the station d.
+// The axis, and every slope at the station d: the inner lane is not turned before the outer slope is p, nor the shoulder before it is q.
 pub(crate) fn slopes_at(r: Runoff, d: u64) -> Slopes
     requires { ⌜ Limits r × (d ≤ r .clothoid) ⌝ }
     ensures { λ s. ⌜ SlopesAt (sectionIn r) d s ⌝ }
@@ -121,9 +115,8 @@ pub(crate) fn slopes_at(r: Runoff, d: u64) -> Slopes
     let up = s.up;
     let down = s.down;
     let over = s.over;
-    let inner = inner_of(p, s);
-    let least = q * over;
-    let shoulder = greater(least, inner);
+    let inner = at_least(p * over, up, down);
+    let shoulder = at_least(q * over, inner, 0);
     Slopes {
         axis,
         up,

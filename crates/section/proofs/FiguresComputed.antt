@@ -7,4 +7,17 @@ use Rattle.section.specs.Figures.{Figures}
 
 pub figures : Figures
 unfolding profiles profileAt outerSlope outerEdge outerBrow innerSlope widening innerEdge innerShoulder shoulderSlope innerBrow
-figures = record { ramp-end = refl; steep-end = refl; first-stage = refl; second-stage = refl }
+figures =
+    record {
+      ramp-end = refl;
+      steep-end = refl;
+      first-stage = refl;
+      second-stage = refl;
+      shoulder-left = refl;
+      shoulder-kept = refl;
+      widest-left = refl;
+      widest-change = refl;
+      widest-kept = refl;
+      album-rule = refl;
+      album-print = refl;
+    }

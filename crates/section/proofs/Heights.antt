@@ -5,7 +5,7 @@ use native.Mathlib.Nat.{mul-pos}
 use native.Mathlib.Omega.{arith}
 use Rattle.exact.specs.Exact.{Exact, whole, _⊕_}
 use Rattle.exact.specs.Parts.{Is}
-use Rattle.exact.proofs.Is.{is-whole, is-net, is-add, is-sub, is-mul, is-times, is-over, is-less, is-floor}
+use Rattle.exact.proofs.Is.{is-whole, is-net, is-add, is-sub, is-mul, is-times, is-over, is-floor}
 use Rattle.section.specs.Lines.{Section, axisHeight, outerSlope, innerSlope, shoulderSlope, widening, innerShoulder, outerEdge, outerBrow, innerEdge, innerBrow}
 
 -- the outer slope is (m − n)/e
@@ -35,10 +35,13 @@ module _ (x : Section) {s : Exact} {a b : ℕ} (at : Is s a 0 b) (long : 0 < x .
   some : 0 < x .L * b
   some = mul-pos long (at .over)
 
-  -- the widening leaves some of the shoulder
-  pub inner-shoulder : x .W * a ≤ x .c * (x .L * b) → Is (innerShoulder x s) (x .c * (x .L * b) - x .W * a) 0 (x .L * b)
+  -- what the widening leaves of the shoulder, which may be less than nothing, or m
+  abbrev pub kept : ℕ
+  kept = max (x .m * (x .L * b)) (x .c * (x .L * b) - x .W * a)
+
+  pub inner-shoulder : Is (innerShoulder x s) kept 0 (x .L * b)
   unfolding innerShoulder
-  inner-shoulder w = is-less w (is-whole (x .c) (x .L * b) some) widening-is
+  inner-shoulder = is-floor (x .m) (is-net (is-sub (is-whole (x .c) (x .L * b) some) widening-is) (omega arith))
 
   module _ {i e : ℕ} (f : Is (innerSlope x s) i 0 e) where
     pub inner-edge : Is (innerEdge x s) (axisHeight x * (x .L * b * e)) ((x .h * (x .L * b) + x .W * a) * i) (x .L * b * e)
@@ -48,7 +51,7 @@ module _ (x : Section) {s : Exact} {a b : ℕ} (at : Is s a 0 b) (long : 0 < x .
         is-net (is-sub (is-whole (axisHeight x) (x .L * b * e) (mul-pos some (f .over))) (is-mul lane f)) (omega arith)
 
     pub inner-brow :
-        {j : ℕ} → x .W * a ≤ x .c * (x .L * b) → Is (shoulderSlope x s) j 0 e →
-        Is (innerBrow x s) (axisHeight x * (x .L * b * e)) ((x .h * (x .L * b) + x .W * a) * i + (x .c * (x .L * b) - x .W * a) * j) (x .L * b * e)
+        {j : ℕ} → Is (shoulderSlope x s) j 0 e →
+        Is (innerBrow x s) (axisHeight x * (x .L * b * e)) ((x .h * (x .L * b) + x .W * a) * i + kept * j) (x .L * b * e)
     unfolding innerBrow
-    inner-brow w g = is-net (is-sub inner-edge (is-mul (inner-shoulder w) g)) (omega arith)
+    inner-brow g = is-net (is-sub inner-edge (is-mul inner-shoulder g)) (omega arith)

@@ -1,13 +1,12 @@
 -- Every line of a runoff is a fraction over a number above 0 at each of its stations.
 -- Assumes nothing.
 use Prim.Native.Nat.{ℕ, _+_, _*_, _≤_}
-use native.Mathlib.Nat.{mul-le-mul}
 use native.Mathlib.Decide.{decLe}
 use native.Mathlib.Omega.{arith}
 use Rattle.exact.specs.Exact.{Exact}
 use Rattle.exact.proofs.Order.{above}
 use Rattle.exact.specs.Parts.{Is}
-use Rattle.exact.proofs.Is.{is-one, le-is, station-is}
+use Rattle.exact.proofs.Is.{station-is}
 use Rattle.section.specs.Lines.{Section, On, jointNum, outerSlope, Fractions}
 use Rattle.section.specs.Climbing.{ClimbPremises}
 use Rattle.section.proofs.Slopes.{even?, even-is, first-is, second-is}
@@ -35,21 +34,19 @@ slope-at {x = x} {s} ok on = go (even? x) (decLe (3 * above s) (jointNum x * s .
     go (no t) (yes j) = slope (first-is x at (omega arith) (ok .wide) j)
     go (no t) (no j) = slope (second-is x at (omega arith) (ok .turned) (joint-before x (omega arith) (ok .turned)) (omega arith))
 
-pub proper : {added : ℕ} {x : Section} {s : Exact} → ClimbPremises added x → x .W ≤ x .c → On x s → Fractions x s
-proper {x = x} {s} ok narrow on =
+pub proper : {added : ℕ} {x : Section} {s : Exact} → ClimbPremises added x → On x s → Fractions x s
+proper {x = x} {s} ok on =
     let at = station-is (on .fraction) (on .from) in
     let f = slope-at ok on .is in
     let inner = inner-slope x s f in
     let shoulder = shoulder-slope x s inner in
-    let inside : above s ≤ x .L * s .den = omega (arith, le-is at (is-one (x .L)) (on .to)) in
-    let left = mul-le-mul narrow inside in
     record {
       outerSlope = f .proper;
       innerSlope = inner .proper;
       widening = widening-is x at (ok .long) .proper;
-      innerShoulder = inner-shoulder x at (ok .long) left .proper;
+      innerShoulder = inner-shoulder x at (ok .long) .proper;
       shoulderSlope = shoulder .proper;
-      innerBrow = inner-brow x at (ok .long) inner left shoulder .proper;
+      innerBrow = inner-brow x at (ok .long) inner shoulder .proper;
       innerEdge = inner-edge x at (ok .long) inner .proper;
       outerEdge = outer-edge x s f .proper;
       outerBrow = outer-brow x s f .proper;

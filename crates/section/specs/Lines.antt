@@ -1,4 +1,5 @@
--- Document 01, "Lines of the cross-section": each line at any exact station s, from 0 to L, fractions included.
+-- Document 01, "Lines of the cross-section", with the inner shoulder of document 02, Slip 1: each line at any exact station s, from 0 to L,
+-- fractions included.
 -- A length in mm times a slope in ‰ is a height in micrometres. Heights count from the inner brow at station 0.
 -- Assumes nothing.
 use mathlib.Core.Bool.{Bool, cond}
@@ -9,12 +10,14 @@ use Rattle.card.specs.declared.Card.{Card}
 use Rattle.card.specs.declared.Profile.{Profile}
 use Rattle.card.specs.Profile.{profileAt}
 
--- the paper's letters: half carriageway h, shoulder c, full widening W and clothoid L in mm; crown slope p, shoulder slope q and full slope v in ‰
+-- the paper's letters: half carriageway h, shoulder c, least shoulder m, full widening W and clothoid L in mm; crown slope p, shoulder slope q
+-- and full slope v in ‰
 pub record Section : Type 0 where
   pub h : ℕ
   pub c : ℕ
   pub p : ℕ
   pub q : ℕ
+  pub m : ℕ
   pub v : ℕ
   pub W : ℕ
   pub L : ℕ
@@ -26,6 +29,7 @@ sectionBy r card =
       c = r .«shoulder_width»;
       p = r .«crown_slope»;
       q = r .«shoulder_slope»;
+      m = r .«least_shoulder»;
       v = card .«full_slope»;
       W = card .«full_widening»;
       L = card .clothoid;
@@ -96,9 +100,9 @@ widening x s = whole (x .W) ⊗ s ⊘ whole (x .L)
 unfoldable pub innerEdge : Section → Exact → Exact
 innerEdge x s = axis x ⊖ (whole (x .h) ⊕ widening x s) ⊗ innerSlope x s
 
--- the inner shoulder is c less the widening, in mm
+-- the inner shoulder is the greater of m and c less the widening, in mm: where m is greater, the bank is widened
 unfoldable pub innerShoulder : Section → Exact → Exact
-innerShoulder x s = whole (x .c) ⊖ widening x s
+innerShoulder x s = greater (whole (x .m)) (whole (x .c) ⊖ widening x s)
 
 -- its slope is the greater of q and the inner slope
 unfoldable pub shoulderSlope : Section → Exact → Exact

@@ -15,6 +15,9 @@ cast-half-width c = search needs
 cast-shoulder-width : tie.Need-cast-shoulder-width
 cast-shoulder-width c = search needs
 
+cast-least-shoulder : tie.Need-cast-least-shoulder
+cast-least-shoulder c = search needs
+
 cast-crown-slope : tie.Need-cast-crown-slope
 cast-crown-slope c = search needs
 
@@ -32,7 +35,7 @@ cast-clothoid c = search needs
 
 stages-of-requires : tie.Need-stages-of-requires
 stages-of-requires c κs =
-    let start = c .before .before .before .before .before .before .before in
+    let start = c .before .before .before .before .before .before .before .before in
     let is = start .profile-at .ensures in
     let s = sizes-of _ (start .before .pre) in
     (rw is (s .half-most), rw is (s .crown-most), accepted _ (start .before .pre) .before .slope-most)
@@ -40,7 +43,7 @@ stages-of-requires c κs =
 returns : tie.Need-returns
 unfolding runoffOf
 returns c =
-    let start = c .before .before .before .before .before .before .before .before in
+    let start = c .before .before .before .before .before .before .before .before .before in
     rw (c .stages-of .ensures, start .profile-at .ensures)
 
 pub runoff-of-spec : {M : Type 1} → statement M
@@ -50,6 +53,7 @@ runoff-of-spec =
     profile-at-requires
     cast-half-width
     cast-shoulder-width
+    cast-least-shoulder
     cast-crown-slope
     cast-shoulder-slope
     cast-full-slope

@@ -1,12 +1,15 @@
 -- `runoff::rows::inner_sides` meets its contract.
 -- Assumes nothing.
 use mathlib.Core.Path.{_∙_}
+use Prim.Native.Nat.{_+_, _*_}
 use native.Mathlib.Omega.{arith}
+use borrow.Author.Needs.{needs}
 use mir.Facts.{toZ-ofZ}
+use Rattle.rounding.specs.Nearest.{Sized}
 use Rattle.rounding.proofs.Parts.{counted}
 use Rattle.card.specs.Rows.{tie as tieRule}
 use Rattle.runoff.specs.Reckoning.{innerSides}
-use Rattle.runoff.proofs.RowLines.{inner-edge-line, inner-brow-line, widened, lane-few, shoulder-few, long-few}
+use Rattle.runoff.proofs.RowLines.{inner-edge-line, inner-brow-line, lane-few, shoulder-few, least-few, long-few}
 use Rattle.runoff.proofs.Fields.{same-sides}
 use Rattle.runoff.proofs.rows.inner_sides.Statement.{statement}
 use Rattle.runoff.proofs.rows.inner_sides.Tie as tie
@@ -14,10 +17,11 @@ use Rattle.runoff.proofs.rows.inner_sides.Tie as tie
 returns : tie.Need-returns
 unfolding innerSides
 returns c =
-    let z = c .before .before .pre in
+    let edge = c .before .before .height in
+    let z = c .before .before .before .pre in
     same-sides
-    (toZ-ofZ (record { sfits = c .height2 .ok }) ∙ c .height2 .ensures ∙ counted tieRule (inner-brow-line z))
-    (toZ-ofZ (record { sfits = c .before .height .ok }) ∙ c .before .height .ensures ∙ counted tieRule (inner-edge-line z))
+    (toZ-ofZ (record { sfits = c .height2 .ok }) ∙ (rw (c .before .at-least .ensures) at (c .height2 .ensures)) ∙ counted tieRule (inner-brow-line z))
+    (toZ-ofZ (record { sfits = edge .ok }) ∙ edge .ensures ∙ counted tieRule (inner-edge-line z))
 
 mul-widening : tie.Need-mul-widening
 mul-widening c = record { fits = omega (arith, lane-few (c .pre), long-few (c .pre)) }
@@ -40,20 +44,31 @@ mul-lane-2 c = record { fits = omega (arith, inner-edge-line (c .pre) .sized) }
 height-requires : tie.Need-height-requires
 height-requires c κs = inner-edge-line (c .pre) .sized
 
+mul-at-least : tie.Need-mul-at-least
+mul-at-least c = record { fits = omega (arith, least-few (c .before .pre), shoulder-few (c .before .pre), long-few (c .before .pre)) }
+
+mul-at-least-2 : tie.Need-mul-at-least-2
+mul-at-least-2 c = record { fits = omega (arith, shoulder-few (c .before .pre), long-few (c .before .pre)) }
+
+at-least-requires : tie.Need-at-least-requires
+at-least-requires c κs = search needs
+
+-- the inner brow with what is kept of the shoulder as the call gives it
+brow-sized :
+    (c : tie.After-at-least) →
+    let a = c .before .before .args in
+    let lane = (a .r .«half_width» * a .r .clothoid + a .r .«full_widening» * a .d) * a .s .inner in
+    Sized (a .s .axis * (a .r .clothoid * a .s .over)) (lane + c .at-least .result * a .s .shoulder) (a .r .clothoid * a .s .over) (a .unit)
+brow-sized c = rw (c .at-least .ensures) (inner-brow-line (c .before .before .pre) .sized)
+
 mul-side : tie.Need-mul-side
-mul-side c = record { fits = omega (arith, shoulder-few (c .before .pre), long-few (c .before .pre)) }
-
-sub-side : tie.Need-sub-side
-sub-side c = widened (c .before .pre)
-
-mul-side-2 : tie.Need-mul-side-2
-mul-side-2 c = record { fits = omega (arith, inner-brow-line (c .before .pre) .sized) }
+mul-side c = record { fits = omega (arith, brow-sized c) }
 
 add-height : tie.Need-add-height
-add-height c = record { fits = omega (arith, inner-brow-line (c .before .pre) .sized) }
+add-height c = record { fits = omega (arith, brow-sized c) }
 
 height-requires-2 : tie.Need-height-requires-2
-height-requires-2 c κs = inner-brow-line (c .before .pre) .sized
+height-requires-2 c κs = brow-sized c
 
 pub inner-sides-spec : {M : Type 1} → statement M
 inner-sides-spec =
@@ -66,9 +81,10 @@ inner-sides-spec =
     add-lane
     mul-lane-2
     height-requires
+    mul-at-least
+    mul-at-least-2
+    at-least-requires
     mul-side
-    sub-side
-    mul-side-2
     add-height
     height-requires-2
     returns)

@@ -1,5 +1,6 @@
 -- `runoff::turning::slopes_at` meets its contract.
 -- Assumes nothing.
+use native.Mathlib.Nat.{sub-zero}
 use native.Mathlib.Omega.{arith}
 use borrow.Author.Needs.{needs}
 use Rattle.runoff.proofs.StationSlopes.{shoulder-rise, crown-rise, crown-most, side-most, all-slopes}
@@ -18,23 +19,24 @@ add-axis c = record { fits = omega (arith, shoulder-rise _ (c .pre .0), crown-ri
 slope-at-requires : tie.Need-slope-at-requires
 slope-at-requires c κs = search needs
 
-inner-of-requires : tie.Need-inner-of-requires
-inner-of-requires c κs =
-    let f = c .slope-at .ensures in
-    (omega (arith, crown-most _ _ (c .before .pre .0) _ f, f), omega (arith, f))
+mul-at-least : tie.Need-mul-at-least
+mul-at-least c = record { fits = omega (arith, crown-most _ _ (c .before .pre .0) _ (c .slope-at .ensures), c .slope-at .ensures) }
 
-mul-least : tie.Need-mul-least
-mul-least c =
+at-least-requires : tie.Need-at-least-requires
+at-least-requires c κs = search needs
+
+mul-at-least-2 : tie.Need-mul-at-least-2
+mul-at-least-2 c =
     let s = c .before in
     record { fits = omega (arith, side-most _ _ (s .before .pre .0) _ (s .slope-at .ensures), s .slope-at .ensures) }
 
-greater-requires : tie.Need-greater-requires
-greater-requires c κs = search needs
+at-least-requires-2 : tie.Need-at-least-requires-2
+at-least-requires-2 c κs = search needs
 
 returns : tie.Need-returns
 returns c =
     let s = c .before .before in
-    rw (c .greater .ensures, c .before .inner-of .ensures) (all-slopes _ _ (s .before .pre .0) _ (s .slope-at .ensures))
+    rw (c .at-least2 .ensures, c .before .at-least .ensures, sub-zero) (all-slopes _ _ (s .before .pre .0) _ (s .slope-at .ensures))
 
 pub slopes-at-spec : {M : Type 1} → statement M
 slopes-at-spec =
@@ -44,7 +46,8 @@ slopes-at-spec =
     mul-axis-2
     add-axis
     slope-at-requires
-    inner-of-requires
-    mul-least
-    greater-requires
+    mul-at-least
+    at-least-requires
+    mul-at-least-2
+    at-least-requires-2
     returns)

@@ -1,9 +1,10 @@
 #!/usr/bin/env python3
-"""The sheet of a book of cards, reckoned from document 01 alone.
+"""The sheet of a book of cards, reckoned from documents 01 and 02 alone.
 
-Standard input: a book of cards. Standard output: the sheet that document 01
-says the printer prints for it. Every height is an exact fraction, rounded
-once. Nothing is shared with the printer's code.
+Standard input: a book of cards. Standard output: the sheet that document 01,
+as Slip 1 of document 02 changes it, says the printer prints for it. Every
+height is an exact fraction, rounded once. Nothing is shared with the printer's
+code. What is quoted stands in document 01 where no Slip is named.
 
     python3 tools/reckon.py < book > sheet
 """
@@ -55,12 +56,13 @@ def least_length(radius):
 def refusal(card):
     """The refusal, 1 to 10 "in rising order, first one met"; 0 if accepted.
 
-    11 is left out: the printer's table is "long enough for every card".
+    7 is left out: "Number 7 never occurs again" (Slip 1). 11 is left out: the
+    printer's table is "long enough for every card".
     """
     profile, terrain, R, L, v, W, step, unit = card
     if profile not in PROFILES:
         return 1
-    h, c, p, q, m, least_R, level, mountain = PROFILES[profile]
+    h, _, p, _, _, least_R, level, mountain = PROFILES[profile]
     if terrain not in (1, 2):
         return 2
     if R < least_R or R > 2000:
@@ -71,8 +73,6 @@ def refusal(card):
         return 5
     if W > 3500 or (W > 0 and R > 1000):
         return 6
-    if W + m > c:
-        return 7
     added_slope = level if terrain == 1 else mountain
     if h * (p + v) > added_slope * L:
         return 8
@@ -111,7 +111,7 @@ def outer_slope(card, d):
 def lines_at(card, d):
     """Widening in mm, then the five heights in micrometres, all exact."""
     profile, _, _, L, _, W, _, _ = card
-    h, c, p, q = PROFILES[profile][:4]
+    h, c, p, q, m = PROFILES[profile][:5]
     axis = c * q + h * p
     outer = outer_slope(card, d)
     outer_edge = axis + h * outer
@@ -119,7 +119,9 @@ def lines_at(card, d):
     inner = max(p, outer)
     widening = Fraction(W * d, L)
     inner_edge = axis - (h + widening) * inner
-    inner_brow = inner_edge - (c - widening) * max(q, inner)
+    # Slip 1: "the inner shoulder is the greater of m and c less the widening"
+    inner_shoulder = max(m, c - widening)
+    inner_brow = inner_edge - inner_shoulder * max(q, inner)
     return widening, inner_brow, inner_edge, axis, outer_edge, outer_brow
 
 

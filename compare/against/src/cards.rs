@@ -1,7 +1,7 @@
 //! Seeded cards of four kinds: valid, on a bound, damaged, random.
 
 use crate::seeded::Seeded;
-use paper::card::{added_slope, least_length, profile, Profile, LEAST_LENGTHS};
+use paper::card::{added_slope, least_length, profile, Profile, GREATEST_WIDENING, LEAST_LENGTHS};
 
 pub type Numbers = [u32; 8];
 
@@ -88,17 +88,28 @@ fn length(least: u32, climb: u32, seeded: &mut Seeded) -> u32 {
     length.clamp(least, 300_000)
 }
 
+/// Any W up to 3500; often about `spare`, above which the shoulder is kept at m before L, and from c on.
 fn widening(profile: &Profile, radius: u32, seeded: &mut Seeded) -> u32 {
-    let greatest = profile.shoulder - profile.least_shoulder;
     if radius > 1000 {
         return 0;
     }
-    match seeded.below(6) {
+    let shoulder = profile.shoulder.min(GREATEST_WIDENING);
+    let spare = spare_shoulder(profile);
+    match seeded.below(10) {
         0 => 0,
-        1 => greatest,
-        2 => seeded.between(0, greatest / 50) * 50,
-        _ => seeded.between(0, greatest),
+        1 => GREATEST_WIDENING,
+        2 | 3 => seeded.pick(&around(&[spare])),
+        4 => seeded.between(0, GREATEST_WIDENING / 50) * 50,
+        5 => seeded.between(0, spare),
+        6 | 7 => seeded.between(spare, GREATEST_WIDENING),
+        8 => seeded.between(shoulder, GREATEST_WIDENING),
+        _ => seeded.between(0, GREATEST_WIDENING),
     }
+}
+
+/// c less m: what the shoulder can give to the widening.
+fn spare_shoulder(profile: &Profile) -> u32 {
+    profile.shoulder - profile.least_shoulder
 }
 
 /// Any step; the least and the greatest; such that divide L, or miss it by one.
@@ -177,10 +188,12 @@ fn slope_bounds(card: &Numbers) -> Vec<u32> {
     around(&bounds)
 }
 
+/// None, the greatest, the shoulder kept at m before L, the shoulder used up.
 fn widening_bounds(card: &Numbers) -> Vec<u32> {
-    let mut bounds = vec![0, 3500];
-    let profile = profile(card[PROFILE]);
-    bounds.extend(profile.map(|profile| profile.shoulder - profile.least_shoulder));
+    let mut bounds = vec![0, GREATEST_WIDENING];
+    if let Some(profile) = profile(card[PROFILE]) {
+        bounds.extend([spare_shoulder(&profile), profile.shoulder]);
+    }
     around(&bounds)
 }
 

@@ -1,7 +1,7 @@
 //! Compares the compiled library with the paper's rules, card by card and book by book.
 //!
 //! `against [--cards N] [--books N] [--seed S]`: the same words give the same output.
-//! Ends well only without differences, with every reply met and every altered answer found.
+//! Ends well only without differences, with every reply met, no other one given, and every altered answer found.
 #![forbid(unsafe_code)]
 
 mod book_case;
@@ -58,6 +58,8 @@ fn lacks(asked: Asked, tally: &Tally) -> Vec<String> {
         let met = tally.book_reply(place);
         lacks.extend(rarely("book", *reply, met, books_often));
     }
+    let unlisted = tally.unlisted;
+    lacks.extend((unlisted > 0).then(|| format!("a listed reply to {unlisted} cards")));
     let whole = asked.cards >= DEFAULT.cards && asked.books >= DEFAULT.books;
     lacks.extend(unseen("card", &tally.altered_cards, whole));
     lacks.extend(unseen("book", &tally.altered_books, whole));

@@ -2,8 +2,9 @@
 
 use crate::book_case::{self, BookCase};
 use crate::books;
-use crate::card_case::{self, CardCase, CLASSES};
+use crate::card_case::{self, CardAnswer, CardCase, CLASSES};
 use crate::cards;
+use paper::card::profile;
 use paper::section::{Course, Runoff};
 use paper::Card;
 
@@ -13,8 +14,20 @@ pub const SHOWN: usize = 10;
 pub const CARD_KINDS: usize = cards::KINDS.len() + 1;
 pub const FROM_A_BOOK: usize = CARD_KINDS - 1;
 pub const BOOK_KINDS: usize = books::KINDS.len();
-pub const CARD_REPLIES: [u32; 12] = [0, 1, 2, 3, 4, 5, 6, 7, 8, 9, 10, 11];
+/// "Number 7 never occurs again" (document 02, Slip 1).
+pub const CARD_REPLIES: [u32; 11] = [0, 1, 2, 3, 4, 5, 6, 8, 9, 10, 11];
 pub const BOOK_REPLIES: [u32; 9] = [0, 21, 22, 23, 24, 25, 26, 27, 28];
+
+/// Sorts of runoffs for which rows come; a runoff can be of more than one.
+pub const SORTS: [&str; 4] = ["even", "two-stage", "kept at m", "W above c"];
+
+/// Of which of the sorts an accepted card's runoff is.
+fn sorts(card: &Card) -> [bool; SORTS.len()] {
+    let profile = profile(card.profile).expect("an accepted card has a profile");
+    let even = Runoff::new(card).course == Course::Even;
+    let kept = card.full_widening + profile.least_shoulder > profile.shoulder;
+    [even, !even, kept, card.full_widening > profile.shoulder]
+}
 
 /// How many answers were altered, and how many of them were found.
 #[derive(Clone, Copy, Default)]
@@ -33,7 +46,9 @@ pub struct Difference {
 pub struct Tally {
     pub cards: [[u64; CARD_REPLIES.len()]; CARD_KINDS],
     pub classes: [[u64; CLASSES.len()]; CARD_KINDS],
-    pub courses: [[u64; 2]; 5],
+    /// Cards to which the library or the paper gave a number that is not among the replies.
+    pub unlisted: u64,
+    pub sorts: [[u64; SORTS.len()]; 5],
     pub books: [[u64; BOOK_REPLIES.len()]; BOOK_KINDS],
     pub rows: u64,
     pub table_numbers: u64,
@@ -56,15 +71,26 @@ fn add_altered(to: &mut [Altered], from: &[Altered]) {
     }
 }
 
+/// Whether the library or the paper gave a number, by either call, that is not among the replies.
+fn has_unlisted_reply(case: &CardCase) -> bool {
+    let of = |answer: &CardAnswer| [answer.check, answer.reply];
+    let mut given = of(&case.due).into_iter().chain(of(&case.came));
+    given.any(|number| !CARD_REPLIES.contains(&number))
+}
+
 impl Tally {
     pub fn count_card(&mut self, kind: usize, case: &CardCase) {
-        self.cards[kind][case.due.reply as usize] += 1;
+        self.unlisted += u64::from(has_unlisted_reply(case));
+        let met = CARD_REPLIES.iter().position(|&n| n == case.due.reply);
+        if let Some(met) = met {
+            self.cards[kind][met] += 1;
+        }
         self.classes[kind][case.class] += 1;
         self.rows += u64::from(case.due.count.numbers()[0]);
         self.table_numbers += case.due.numbers_compared();
         if case.due.reply == 0 {
-            let two_stage = Runoff::new(&Card::new(&case.card)).course != Course::Even;
-            self.courses[case.card[0] as usize - 1][usize::from(two_stage)] += 1;
+            let sorts = sorts(&Card::new(&case.card)).map(u64::from);
+            add_numbers(&mut self.sorts[case.card[0] as usize - 1], &sorts);
         }
     }
 
@@ -93,10 +119,11 @@ impl Tally {
             add_numbers(&mut self.books[kind], &other.books[kind]);
         }
         for profile in 0..5 {
-            add_numbers(&mut self.courses[profile], &other.courses[profile]);
+            add_numbers(&mut self.sorts[profile], &other.sorts[profile]);
         }
         add_altered(&mut self.altered_cards, &other.altered_cards);
         add_altered(&mut self.altered_books, &other.altered_books);
+        self.unlisted += other.unlisted;
         self.rows += other.rows;
         self.table_numbers += other.table_numbers;
         self.curves += other.curves;
@@ -117,5 +144,34 @@ impl Tally {
 
     pub fn book_reply(&self, reply: usize) -> u64 {
         self.books.iter().map(|kind| kind[reply]).sum()
+    }
+}
+
+#[cfg(test)]
+mod tests {
+    use super::Tally;
+    use crate::card_case::{run, CardCase};
+    use crate::seeded::Seeded;
+
+    const RAMP: [u32; 8] = [5, 1, 30, 30_000, 60, 600, 20_000, 1];
+
+    /// How many cards are counted as unlisted when this is done to the answers for RAMP.
+    fn unlisted(alter: fn(&mut CardCase)) -> u64 {
+        let mut case = run(RAMP, &mut Seeded::new(1, 1, 1));
+        alter(&mut case);
+        let mut tally = Tally::default();
+        tally.count_card(0, &case);
+        tally.unlisted
+    }
+
+    #[test]
+    fn number_7_is_counted_wherever_it_comes_from() {
+        assert_eq!(unlisted(|_| ()), 0);
+        assert_eq!(unlisted(|case| case.due.check = 7), 1);
+        assert_eq!(unlisted(|case| case.due.reply = 7), 1);
+        assert_eq!(unlisted(|case| case.came.check = 7), 1);
+        assert_eq!(unlisted(|case| case.came.reply = 7), 1);
+        assert_eq!(unlisted(|case| case.came.reply = 12), 1);
+        assert_eq!(unlisted(|case| case.came.reply = 8), 0);
     }
 }

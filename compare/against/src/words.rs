@@ -5,7 +5,7 @@ use crate::books;
 use crate::card_case::{self, CardAnswer, CardCase, CLASSES};
 use crate::cards;
 use crate::lent::Unlike;
-use crate::tally::{Altered, Tally, BOOK_REPLIES, CARD_REPLIES};
+use crate::tally::{Altered, Tally, BOOK_REPLIES, CARD_REPLIES, SORTS};
 use std::fmt::Arguments;
 
 /// Unlike places named in one difference.
@@ -57,8 +57,8 @@ fn print_cards(tally: &Tally) {
     }
     line("all", &sum(&tally.classes));
     println!();
-    heading("Rows came for", &["even", "two-stage"].map(str::to_string));
-    for (profile, counts) in tally.courses.iter().enumerate() {
+    heading("Rows came for", &SORTS.map(str::to_string));
+    for (profile, counts) in tally.sorts.iter().enumerate() {
         line(&format!("profile {}", profile + 1), counts);
     }
     let (rows, numbers) = (tally.rows, tally.table_numbers);

@@ -5,6 +5,7 @@ use paper::card::{profile, LEAST_LENGTHS};
 pub const HEADER: &str = include_str!("../../../include/pippinterm.h");
 
 /// "What a turned-away card or book says", by the trade's word, which the header puts behind `REFUSED`.
+/// The constant for 7 stays, though "Number 7 never occurs again" (document 02, Slip 1).
 const REFUSALS: [(&str, u32); 19] = [
     ("profile", 1),
     ("terrain", 2),
@@ -68,7 +69,9 @@ fn constant(line: &str) -> Option<(String, u32)> {
 #[test]
 fn constants_are_the_papers() {
     let mut there: Vec<_> = HEADER.lines().filter_map(constant).collect();
-    let refused = REFUSALS.iter().map(|&(word, n)| (format!("refused {word}"), n));
+    let refused = REFUSALS
+        .iter()
+        .map(|&(word, n)| (format!("refused {word}"), n));
     let others = OTHERS.iter().map(|&(word, n)| (word.to_string(), n));
     let mut due: Vec<_> = refused.chain(others).collect();
     there.sort();

@@ -43,7 +43,7 @@ fn start_mut<T>(slice: &mut [T]) -> *mut T {
     }
 }
 
-/// The first of the reasons 1 to 10 met, or 0.
+/// The first of the reasons 1 to 6 and 8 to 10 met, or 0.
 pub fn check_card(card: &[u32; 8]) -> u32 {
     // SAFETY: the call reads the eight numbers lent here.
     unsafe { pippinterm_check_card(card.as_ptr()) }

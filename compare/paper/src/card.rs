@@ -1,4 +1,4 @@
-//! The card, the profiles, and the reasons 1 to 10 for which a card is refused.
+//! The card, the profiles, and the reasons 1 to 6 and 8 to 10 for which a card is refused.
 
 /// One line of the table of profiles: lengths in mm, slopes in ‰, radius in metres.
 #[derive(Clone, Copy, Debug)]
@@ -138,7 +138,9 @@ pub fn least_length(radius: u32) -> Option<u32> {
     None
 }
 
-/// 0 for a card that none of the reasons 1 to 10 refuses, else the first one met.
+/// 0 for a card that none of the reasons 1 to 6 and 8 to 10 refuses, else the first one met.
+///
+/// Document 02, Slip 1: "Cards that gave 7 go on to the later reasons. Number 7 never occurs again".
 pub fn check_card(numbers: &[u32; 8]) -> u32 {
     let card = Card::new(numbers);
     let Some(profile) = profile(card.profile) else {
@@ -158,9 +160,6 @@ pub fn check_card(numbers: &[u32; 8]) -> u32 {
     }
     if widened_too_much(&card) {
         return 6;
-    }
-    if card.full_widening + profile.least_shoulder > profile.shoulder {
-        return 7;
     }
     if profile.half * (profile.crown_slope + card.full_slope) > added * card.length {
         return 8;

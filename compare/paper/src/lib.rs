@@ -1,6 +1,7 @@
-//! The paper "Superelevation runoff about the axis, categories II to V", rule by rule.
+//! The paper "Superelevation runoff about the axis, categories II to V" (document 01), rule by rule,
+//! with what document 02 changes in it: Slip 1, "The bank is widened, the shoulder is kept".
 //!
-//! Written to be read beside the paper: its words, its order, exact fractions throughout.
+//! Written to be read beside the papers: their words, their order, exact fractions throughout.
 #![forbid(unsafe_code)]
 
 pub mod book;
@@ -13,5 +14,9 @@ pub use book::{read_book, BookReply};
 pub use card::{check_card, Card, Profile};
 pub use rows::{fill_table, rows, stations, TableReply};
 
+#[cfg(test)]
+mod kept_shoulder;
+#[cfg(test)]
+mod printed;
 #[cfg(test)]
 mod readings;

@@ -14,12 +14,12 @@ fn course(numbers: [u32; 8]) -> Course {
     Runoff::new(&Card::new(&numbers)).course
 }
 
-fn row_at(numbers: [u32; 8], station: i32) -> [i32; 7] {
+pub fn row_at(numbers: [u32; 8], station: i32) -> [i32; 7] {
     let found = rows(&numbers).into_iter().find(|row| row[0] == station);
     found.expect("a row at that station")
 }
 
-fn reply(numbers: [u32; 8], table_length: usize) -> (u32, u32) {
+pub fn reply(numbers: [u32; 8], table_length: usize) -> (u32, u32) {
     let TableReply { number, count } = fill_table(&numbers, &mut vec![0; table_length]);
     (number, count)
 }
@@ -116,10 +116,11 @@ fn full_slope_of_profile_4() {
     assert_eq!((of(29), of(30), of(60), of(61)), (5, 0, 0, 5));
 }
 
+/// Document 02, Slip 1: "Number 7 never occurs again, and the reading with W 1001 now passes."
 #[test]
 fn widening_of_profile_2() {
     let of = |w| check_card(&[2, 1, 200, 80000, 30, w, 5000, 1]);
-    assert_eq!((of(1000), of(1001), of(3500), of(3501)), (0, 7, 7, 6));
+    assert_eq!((of(1000), of(1001), of(3500), of(3501)), (0, 0, 0, 6));
 }
 
 #[test]

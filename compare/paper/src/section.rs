@@ -19,6 +19,7 @@ pub struct Runoff {
     c: Fraction,
     p: Fraction,
     q: Fraction,
+    m: Fraction,
     v: Fraction,
     length: Fraction,
     full_widening: Fraction,
@@ -34,6 +35,7 @@ impl Runoff {
             c: whole(profile.shoulder),
             p: whole(profile.crown_slope),
             q: whole(profile.shoulder_slope),
+            m: whole(profile.least_shoulder),
             v: whole(card.full_slope),
             length: whole(card.length),
             full_widening: whole(card.full_widening),
@@ -86,10 +88,14 @@ impl Runoff {
         self.axis() - (self.h + self.widening(station)) * self.inner_slope(station)
     }
 
+    /// Document 02, Slip 1: "From now on the inner shoulder is the greater of m and c less the widening."
+    pub fn inner_shoulder(&self, station: Fraction) -> Fraction {
+        self.m.max(self.c - self.widening(station))
+    }
+
     pub fn inner_brow(&self, station: Fraction) -> Fraction {
-        let shoulder = self.c - self.widening(station);
         let slope = self.q.max(self.inner_slope(station));
-        self.inner_edge(station) - shoulder * slope
+        self.inner_edge(station) - self.inner_shoulder(station) * slope
     }
 }
 

@@ -91,8 +91,6 @@ fn reason(card: &[u32; 8]) -> u32 {
         5
     } else if widening > 3500 || (widening > 0 && radius > 1000) {
         6
-    } else if widening + profile.least_shoulder > profile.shoulder {
-        7
     } else if climb > added_slope * length {
         8
     } else if !(1000..=20_000).contains(&step) {
@@ -172,7 +170,11 @@ impl Runoff {
 
     /// The seven numbers of the row at a station.
     fn row(&self, station: i64) -> [i32; 7] {
-        let (h, c) = (self.profile.half, self.profile.shoulder);
+        let (h, c, m) = (
+            self.profile.half,
+            self.profile.shoulder,
+            self.profile.least_shoulder,
+        );
         let (p, q) = (self.profile.crown_slope, self.profile.shoulder_slope);
         let outer = self.outer_slope(station);
         let inner = outer.at_least(p);
@@ -184,7 +186,8 @@ impl Runoff {
         let widening = self.full_widening * station;
         let bottom = inner.bottom * self.length;
         let inner_edge = axis * bottom - (h * self.length + widening) * inner.top;
-        let inner_brow = inner_edge - (c * self.length - widening) * side.top;
+        let shoulder = (c * self.length - widening).max(m * self.length);
+        let inner_brow = inner_edge - shoulder * side.top;
         let unit = 1000 * self.unit;
         [
             station as i32,
@@ -242,6 +245,26 @@ mod tests {
         assert_eq!(fill_table(&card, &mut table[..48]), (11, 0));
     }
 
+    /// The shoulder is 2500 − 900 at 60000, and kept at 1500 at 80000.
+    #[test]
+    fn kept_shoulder() {
+        let mut table = [0; 35];
+        let card = [2, 1, 200, 80_000, 60, 1200, 20000, 1];
+        assert_eq!(fill_table(&card, &mut table), (0, 5));
+        assert_eq!(table[21..28], [60_000, 900, -70, -6, 170, 310, 410]);
+        assert_eq!(table[28..], [80_000, 1200, -202, -112, 170, 380, 530]);
+    }
+
+    /// The widening is above the shoulder, so the shoulder without the rule would be below nought.
+    #[test]
+    fn widening_above_the_shoulder() {
+        let mut table = [0; 49];
+        let card = [5, 1, 30, 30000, 60, 3500, 5000, 1];
+        assert_eq!(fill_table(&card, &mut table), (0, 7));
+        assert_eq!(table[7..14], [5000, 583, 17, 87, 172, 139, 112]);
+        assert_eq!(table[42..], [30000, 3500, -233, -173, 172, 307, 412]);
+    }
+
     #[test]
     fn refused() {
         let number = |card| fill_table(&card, &mut []).0;
@@ -252,7 +275,8 @@ mod tests {
         assert_eq!(number([2, 1, 1500, 119_999, 40, 0, 20000, 1]), 4);
         assert_eq!(number([2, 1, 2000, 100_000, 40, 0, 20000, 1]), 11);
         assert_eq!(number([4, 1, 100, 100_000, 29, 0, 20000, 1]), 5);
-        assert_eq!(number([2, 1, 1000, 120_000, 40, 1001, 20000, 1]), 7);
+        assert_eq!(number([2, 1, 1000, 120_000, 40, 1001, 20000, 1]), 11);
+        assert_eq!(number([2, 1, 1000, 120_000, 40, 3500, 20000, 1]), 11);
         assert_eq!(number([2, 1, 1000, 120_000, 40, 3501, 20000, 1]), 6);
         assert_eq!(number([2, 1, 1001, 120_000, 40, 1, 20000, 1]), 6);
         assert_eq!(number([0, 1, 1001, 120_000, 40, 1, 0, 1]), 1);

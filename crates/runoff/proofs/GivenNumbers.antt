@@ -6,7 +6,6 @@ use mathlib.Core.List.{List, _∷_}
 use Prim.Native.Nat.{ℕ}
 use lib.Dec.{eqb}
 use borrow.Author.Tests.{not-true, eqb-false}
-use Rattle.card.specs.declared.Card.{Card}
 use Rattle.card.specs.Words.{among}
 use Rattle.card.specs.Reasons.{Test, first}
 use Rattle.card.specs.Table.{replyBy}

@@ -1,6 +1,6 @@
 -- The lines at the station a/b, over one denominator, from the outer slope there.
 -- Assumes nothing.
-use Prim.Native.Nat.{ℕ, _+_, _*_, _-_, _≤_, _<_, max}
+use Prim.Native.Nat.{ℕ, _+_, _*_, _-_, _<_, max}
 use native.Mathlib.Nat.{mul-pos}
 use native.Mathlib.Omega.{arith}
 use Rattle.exact.specs.Exact.{Exact, whole, _⊕_}

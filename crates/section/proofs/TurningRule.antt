@@ -3,8 +3,8 @@
 -- Assumes nothing.
 use mathlib.Core.Path.{_≡_, refl, ap}
 use mathlib.Core.Bool.{false}
-use Prim.Native.Nat.{ℕ, _+_, _*_, _-_, _≤_, _<_, max}
-use native.Mathlib.Nat.{mul-le-mul-right, sub-zero}
+use Prim.Native.Nat.{ℕ, _+_, _*_, _-_, _≤_, _<_}
+use native.Mathlib.Nat.{mul-le-mul-right}
 use native.Mathlib.Omega.{arith}
 use borrow.Author.Tests.{leb-false}
 use Rattle.exact.specs.Exact.{Exact, whole, minus, _≼_, _≈_}

@@ -44,9 +44,9 @@ extern "C" {
 /* The numbers of a row, in their order: the station in mm, the others in
    counts of the card's unit, each rounded once from its exact fraction to the
    nearest, halfway to the lower, also below nought. Heights count from the
-   inner brow at station 0. The inner brow is the shoulder less the widening
-   away from the inner edge, and no less than the least shoulder: where that is
-   more, the bank is widened. */
+   inner brow at station 0. The inner shoulder, from the inner edge to the inner
+   brow, is the greater of the least shoulder and the shoulder less the widening:
+   where the least is greater, the bank is widened. */
 #define PIPPINTERM_ROW_STATION 0
 #define PIPPINTERM_ROW_WIDENING 1
 #define PIPPINTERM_ROW_INNER_BROW 2

@@ -54,7 +54,7 @@ def least_length(radius):
 
 
 def refusal(card):
-    """The refusal, 1 to 10 "in rising order, first one met"; 0 if accepted.
+    """The refusal, 1 to 6 and 8 to 10 "in rising order, first one met"; 0 if accepted.
 
     7 is left out: "Number 7 never occurs again" (Slip 1). 11 is left out: the
     printer's table is "long enough for every card".

@@ -16,7 +16,7 @@ mod work;
 
 use std::env;
 use std::process::ExitCode;
-use tally::{Altered, Tally, BOOK_REPLIES, CARD_REPLIES};
+use tally::{Altered, Tally, BOOK_REPLIES, CARD_REPLIES, SORTS};
 use work::Asked;
 
 /// What is compared when nothing else is asked.
@@ -51,12 +51,16 @@ fn lacks(asked: Asked, tally: &Tally) -> Vec<String> {
     let cards_often = often(asked.cards, DEFAULT.cards);
     for (place, reply) in CARD_REPLIES.iter().enumerate() {
         let met = tally.card_reply(place);
-        lacks.extend(rarely("card", *reply, met, cards_often));
+        lacks.extend(rarely(&format!("card reply {reply}"), met, cards_often));
+    }
+    for (place, sort) in SORTS.iter().enumerate() {
+        let met = tally.sort(place);
+        lacks.extend(rarely(&format!("runoffs {sort}"), met, cards_often));
     }
     let books_often = often(asked.books, DEFAULT.books);
     for (place, reply) in BOOK_REPLIES.iter().enumerate() {
         let met = tally.book_reply(place);
-        lacks.extend(rarely("book", *reply, met, books_often));
+        lacks.extend(rarely(&format!("book reply {reply}"), met, books_often));
     }
     let unlisted = tally.unlisted;
     lacks.extend((unlisted > 0).then(|| format!("a listed reply to {unlisted} cards")));
@@ -66,8 +70,8 @@ fn lacks(asked: Asked, tally: &Tally) -> Vec<String> {
     lacks
 }
 
-fn rarely(what: &str, reply: u32, met: u64, due: u64) -> Option<String> {
-    (met < due).then(|| format!("{what} reply {reply} met {met} times, at least {due} due"))
+fn rarely(what: &str, met: u64, due: u64) -> Option<String> {
+    (met < due).then(|| format!("{what} met {met} times, at least {due} due"))
 }
 
 /// Altered answers must all be found; in a whole run each place is altered at least once.

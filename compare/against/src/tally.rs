@@ -145,6 +145,11 @@ impl Tally {
     pub fn book_reply(&self, reply: usize) -> u64 {
         self.books.iter().map(|kind| kind[reply]).sum()
     }
+
+    /// How many runoffs of a sort were met, of all profiles.
+    pub fn sort(&self, sort: usize) -> u64 {
+        self.sorts.iter().map(|profile| profile[sort]).sum()
+    }
 }
 
 #[cfg(test)]

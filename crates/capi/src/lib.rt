@@ -28,7 +28,7 @@ fn card_of(numbers: &[u32; 8]) -> Card
     }
 }
 
-// 0 for an accepted card, else the number of the first of its own reasons, 1 to 10.
+// 0 for an accepted card, else the number of the first of its own reasons: 1 to 6, 8, 9 or 10.
 #[no_mangle]
 pub extern "C" fn pippinterm_check_card(card: &[u32; 8]) -> u32
     ensures { λ r. ⌜ r ≡ refusal (cardOf (now (card .entry))) ⌝ }
@@ -37,7 +37,7 @@ pub extern "C" fn pippinterm_check_card(card: &[u32; 8]) -> u32
     check_card(c)
 }
 
-// Fills the lent table with the card's rows: 0, and `count` has how many; or the number of the reason, 1 to 11, `count` has 0, and the table is as it was.
+// Fills the lent table with the card's rows: 0, and `count` has how many; or the number of the reason, 1 to 6 or 8 to 11, `count` has 0, and the table is as it was.
 #[no_mangle]
 pub extern "C" fn pippinterm_fill_table(card: &[u32; 8], table: &mut [i32], count: &mut u32) -> u32
     ensures { λ r. ⌜ r ≡ replyTo (cardOf (now (card .entry))) (length (now (table .entry))) .number ⌝ }

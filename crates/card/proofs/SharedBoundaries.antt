@@ -1,4 +1,4 @@
--- The added slopes and the edges of the room, computed from the definitions.
+-- The least shoulders, the added slopes and the edges of the room, computed from the definitions.
 -- Assumes nothing.
 use mathlib.Core.Path.{refl}
 use Rattle.card.specs.Profile.{profiles, profileAt}
@@ -9,6 +9,7 @@ pub boundaries : Boundaries
 unfolding profiles profileAt refusalRoom
 boundaries =
     record {
+      least = refl;
       level = λ R L v W step unit. refl;
       mountain = λ R L v W step unit. refl;
       seven-short = refl;

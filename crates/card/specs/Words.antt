@@ -1,4 +1,4 @@
--- The paper's words for comparing two whole numbers, as tests.
+-- The paper's words for comparing whole numbers, as tests.
 -- Assumes nothing.
 use mathlib.Core.Bool.{Bool, false, not, _||_}
 use mathlib.Core.List.{List, [], _∷_}

@@ -14,13 +14,18 @@ const LEVEL: u32 = 10;
 
 const MOUNTAIN: u32 = 20;
 
+// The least shoulders of II and III, and of IV and V, in mm.
+const LEAST_WIDE: u32 = 1500;
+
+const LEAST_NARROW: u32 = 1000;
+
 pub(crate) const PROFILES: [Profile; 5] = [
     Profile {
         half_width: 3750,
         shoulder_width: 3750,
         crown_slope: 20,
         shoulder_slope: 40,
-        least_shoulder: 1500,
+        least_shoulder: LEAST_WIDE,
         least_radius: 125,
         added_level: 5,
         added_mountain: 5,
@@ -30,7 +35,7 @@ pub(crate) const PROFILES: [Profile; 5] = [
         shoulder_width: 2500,
         crown_slope: 20,
         shoulder_slope: 40,
-        least_shoulder: 1500,
+        least_shoulder: LEAST_WIDE,
         least_radius: 100,
         added_level: LEVEL,
         added_mountain: MOUNTAIN,
@@ -40,7 +45,7 @@ pub(crate) const PROFILES: [Profile; 5] = [
         shoulder_width: 2000,
         crown_slope: 20,
         shoulder_slope: 50,
-        least_shoulder: 1000,
+        least_shoulder: LEAST_NARROW,
         least_radius: 60,
         added_level: LEVEL,
         added_mountain: MOUNTAIN,
@@ -50,7 +55,7 @@ pub(crate) const PROFILES: [Profile; 5] = [
         shoulder_width: 2000,
         crown_slope: 30,
         shoulder_slope: 60,
-        least_shoulder: 1000,
+        least_shoulder: LEAST_NARROW,
         least_radius: 30,
         added_level: LEVEL,
         added_mountain: MOUNTAIN,
@@ -60,7 +65,7 @@ pub(crate) const PROFILES: [Profile; 5] = [
         shoulder_width: 1750,
         crown_slope: 30,
         shoulder_slope: 60,
-        least_shoulder: 1000,
+        least_shoulder: LEAST_NARROW,
         least_radius: 30,
         added_level: LEVEL,
         added_mountain: MOUNTAIN,

@@ -7,6 +7,7 @@ use Prim.Native.Nat.{ℕ, zero, suc}
 use lib.IntN.{ℤ, pos, negℤ}
 use Rattle.card.specs.declared.Card.{Card}
 use Rattle.card.specs.Card.{card, ramp}
+use Rattle.section.specs.Figures.{widened, widest}
 use Rattle.runoff.specs.Rows.{cells, rowOf, rows}
 use Rattle.runoff.specs.Refusal.{refusal}
 use Rattle.runoff.specs.Table.{replyTo, tableAfter}
@@ -152,17 +153,17 @@ pub record Boundaries : Type 0 where
   pub steep-row :
       cells (rowOf (card 2 1 200 70000 60 800 20000 10) 70000)
       ≡ pos 70000 ∷ pos 80 ∷ negℤ (pos 19) ∷ negℤ (pos 9) ∷ pos 17 ∷ pos 38 ∷ pos 53 ∷ []
-  -- a card that gave 7: category III with 1.2 m of widening, where the shoulder is c less the widening, and where it is m
+  -- cards that gave 7: category III with 1.2 m of widening, where the shoulder is c less the widening, and where it is m
   pub left-row :
-      cells (rowOf (card 2 1 100 60000 60 1200 5000 1) 30000)
+      cells (rowOf widened 30000)
       ≡ pos 30000 ∷ pos 600 ∷ pos 12 ∷ pos 88 ∷ pos 170 ∷ pos 240 ∷ pos 290 ∷ []
   pub kept-row :
-      cells (rowOf (card 2 1 100 60000 60 1200 5000 1) 60000)
+      cells (rowOf widened 60000)
       ≡ pos 60000 ∷ pos 1200 ∷ negℤ (pos 202) ∷ negℤ (pos 112) ∷ pos 170 ∷ pos 380 ∷ pos 530 ∷ []
   -- and one whose widening is above its shoulder
   pub widest-left-row :
-      cells (rowOf (card 5 1 60 60000 60 3500 1000 1) 6000)
+      cells (rowOf widest 6000)
       ≡ pos 6000 ∷ pos 350 ∷ pos 10 ∷ pos 94 ∷ pos 172 ∷ pos 125 ∷ pos 88 ∷ []
   pub widest-kept-row :
-      cells (rowOf (card 5 1 60 60000 60 3500 1000 10) 60000)
-      ≡ pos 60000 ∷ pos 350 ∷ negℤ (pos 23) ∷ negℤ (pos 17) ∷ pos 17 ∷ pos 31 ∷ pos 41 ∷ []
+      cells (rowOf widest 60000)
+      ≡ pos 60000 ∷ pos 3500 ∷ negℤ (pos 233) ∷ negℤ (pos 173) ∷ pos 172 ∷ pos 307 ∷ pos 412 ∷ []

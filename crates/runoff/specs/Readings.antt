@@ -17,11 +17,12 @@ use Rattle.runoff.specs.Rows.{rowCount, rowOf, rows}
 use Rattle.runoff.specs.Refusal.{ownTests, refusal}
 use Rattle.runoff.specs.Table.{replyTo}
 
--- the reasons whose numbers are not in ns
+-- the reasons whose numbers pass the test f
 abbrev pub keep : (ℕ → Bool) → List Test → List Test
 keep f [] = []
 keep f (t ∷ ts) = cond (f (t .number)) (t ∷ keep f ts) (keep f ts)
 
+-- the reasons whose numbers are not in ns
 abbrev pub others : List ℕ → List Test → List Test
 others ns ts = keep (λ (n : ℕ). not (among ns n)) ts
 

@@ -29,6 +29,6 @@ ownTests card = testsBefore card ++ (methodTests (profileAt (card .profile)) car
 abbrev pub tests : Card → ℕ → List Test
 tests card room = ownTests card ++ testsRoom rowWidth (rowCount card) room
 
--- the number of the card's own reason: 1 to 10 in rising order, first one met
+-- the number of the card's own reason: 1 to 6 and 8 to 10 in rising order, first one met
 unfoldable pub refusal : Card → ℕ
 refusal card = first (ownTests card)

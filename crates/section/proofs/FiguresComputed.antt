@@ -18,6 +18,10 @@ figures =
       widest-left = refl;
       widest-change = refl;
       widest-kept = refl;
+      staged-left = refl;
+      kept-1 = refl;
+      kept-3 = refl;
+      kept-4 = refl;
       album-rule = refl;
       album-print = refl;
     }

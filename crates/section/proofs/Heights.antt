@@ -35,7 +35,7 @@ module _ (x : Section) {s : Exact} {a b : ℕ} (at : Is s a 0 b) (long : 0 < x .
   some : 0 < x .L * b
   some = mul-pos long (at .over)
 
-  -- what the widening leaves of the shoulder, which may be less than nothing, or m
+  -- what is kept of the shoulder: what the widening leaves of c, which may be less than nothing, and at least m
   abbrev pub kept : ℕ
   kept = max (x .m * (x .L * b)) (x .c * (x .L * b) - x .W * a)
 

@@ -35,6 +35,10 @@ widened = card 2 1 100 60000 60 1200 5000 1
 abbrev pub widest : Card
 widest = card 5 1 60 60000 60 3500 5000 1
 
+-- level ground, R 1000, L 300000, v 60, W 3500: two stages on every profile
+abbrev pub longest : ℕ → Card
+longest profile = card profile 1 1000 300000 60 3500 20000 1
+
 -- 002, sheet 49, III, R 100, L 50, W 1.10
 abbrev pub album : Card
 album = card 2 1 100 50000 60 1100 10000 10
@@ -88,6 +92,20 @@ pub record Figures : Type 0 where
   pub widest-kept :
       Are widest (whole 60000)
       (whole 60 ∷ whole 3500 ∷ whole 1000 ∷ minus 232500 ∷ minus 172500 ∷ whole 172500 ∷ whole 307500 ∷ whole 412500 ∷ [])
+  -- profile 1 past the joint, which is at 50000, where the widening has taken 2100 of the shoulder's 3750
+  pub staged-left :
+      Are (longest 1) (whole 180000)
+      (frac 204 5 ∷ whole 2100 ∷ whole 1650 ∷ minus 81000 ∷ minus 13680 ∷ whole 225000 ∷ whole 378000 ∷ whole 531000 ∷ [])
+  -- at L, where the shoulder has the least width of its profile
+  pub kept-1 :
+      Are (longest 1) (whole 300000)
+      (whole 60 ∷ whole 3500 ∷ whole 1500 ∷ minus 300000 ∷ minus 210000 ∷ whole 225000 ∷ whole 450000 ∷ whole 675000 ∷ [])
+  pub kept-3 :
+      Are (longest 3) (whole 300000)
+      (whole 60 ∷ whole 3500 ∷ whole 1000 ∷ minus 290000 ∷ minus 230000 ∷ whole 160000 ∷ whole 340000 ∷ whole 460000 ∷ [])
+  pub kept-4 :
+      Are (longest 4) (whole 300000)
+      (whole 60 ∷ whole 3500 ∷ whole 1000 ∷ minus 240000 ∷ minus 180000 ∷ whole 210000 ∷ whole 390000 ∷ whole 510000 ∷ [])
   -- at L, by the rule and with a least shoulder of 1.0 m, which is what 002 prints there: an inner brow of −19 cm
   pub album-rule :
       Are album (whole 50000)

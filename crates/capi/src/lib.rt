@@ -1,6 +1,6 @@
 // The calls for firmware in C: the library's own, with the card as its eight numbers and the reply as a number and counts.
 use book::read_book;
-use card::Card;
+use card_list::card_of_numbers;
 use runoff::check_card;
 use runoff::fill_table;
 ghost use mathlib.Core.Path.{_≡_};
@@ -12,28 +12,12 @@ ghost use Rattle.runoff.specs.Climbing.{ClimbingTable};
 ghost use Rattle.card_list.specs.List.{cardOf};
 ghost use Rattle.book.specs.Book.{replyToBook, listAfter};
 
-// The card with these eight numbers, in the order of the paper.
-fn card_of(numbers: &[u32; 8]) -> Card
-    ensures { λ r. ⌜ r ≡ cardOf (now (numbers .entry)) ⌝ }
-{
-    Card {
-        profile: numbers[0],
-        terrain: numbers[1],
-        radius: numbers[2],
-        clothoid: numbers[3],
-        full_slope: numbers[4],
-        full_widening: numbers[5],
-        step: numbers[6],
-        unit: numbers[7],
-    }
-}
-
 // 0 for an accepted card, else the number of the first of its own reasons: 1 to 6, 8, 9 or 10.
 #[no_mangle]
 pub extern "C" fn pippinterm_check_card(card: &[u32; 8]) -> u32
     ensures { λ r. ⌜ r ≡ refusal (cardOf (now (card .entry))) ⌝ }
 {
-    let c = card_of(card);
+    let c = card_of_numbers(card);
     check_card(c)
 }
 
@@ -45,7 +29,7 @@ pub extern "C" fn pippinterm_fill_table(card: &[u32; 8], table: &mut [i32], coun
     ensures { λ _. ⌜ now (table .exit) ≡ tableAfter (cardOf (now (card .entry))) (now (table .entry)) ⌝ }
     ensures { λ r. ⌜ (r ≡ 0 → ClimbingTable (cardOf (now (card .entry))) (now (count .exit)) (now (table .exit))) ⌝ }
 {
-    let c = card_of(card);
+    let c = card_of_numbers(card);
     let reply = fill_table(c, table);
     let rows = reply.count;
     *count = rows;

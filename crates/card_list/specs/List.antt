@@ -3,7 +3,7 @@
 -- Assumes nothing.
 use Prim.Native.Nat.{ℕ, _+_, _*_}
 use mathlib.Core.Path.{_≡_}
-use mathlib.Core.List.{List, [], _∷_}
+use mathlib.Core.List.{List, [], _∷_, map}
 use lib.ListN.{getD, take, drop}
 use Rattle.card.specs.declared.Card.{Card}
 use Rattle.card.specs.Card.{card}
@@ -30,6 +30,10 @@ cardFrom list at =
 -- the card with the eight numbers of a body
 abbrev pub cardOf : List ℕ → Card
 cardOf numbers = cardFrom numbers 0
+
+-- the cards of a list of such bodies, in order
+abbrev pub cardsOf : List (List ℕ) → List Card
+cardsOf bodies = map cardOf bodies
 
 -- THEOREM (proofs/EightNumbers.antt): they are the card's, in the card's order
 abbrev pub EightNumbers : Type 0

@@ -2,7 +2,7 @@
 use card::Card;
 ghost use mathlib.Core.Path.{_≡_};
 ghost use lib.ListN.{getD};
-ghost use Rattle.card_list.specs.List.{cardIn, namePlaceIn};
+ghost use Rattle.card_list.specs.List.{cardOf, cardIn, namePlaceIn};
 
 // How many numbers a curve has in a list.
 pub const CURVE_WIDTH: usize = 10;
@@ -11,6 +11,22 @@ pub const CURVE_WIDTH: usize = 10;
 pub struct NamePlace {
     pub place: u32,
     pub size: u32,
+}
+
+// The card with these eight numbers, in the order of the paper.
+pub fn card_of_numbers(numbers: &[u32; 8]) -> Card
+    ensures { λ r. ⌜ r ≡ cardOf (now (numbers .entry)) ⌝ }
+{
+    Card {
+        profile: numbers[0],
+        terrain: numbers[1],
+        radius: numbers[2],
+        clothoid: numbers[3],
+        full_slope: numbers[4],
+        full_widening: numbers[5],
+        step: numbers[6],
+        unit: numbers[7],
+    }
 }
 
 // A number of the list, and 0 past its end.

@@ -20,8 +20,8 @@ Gives reply before after card =
     × ((after ≡ tableAfter card before)
     × (reply .number ≡ 0 → ClimbingTable card (reply .count) after)))
 
-card-of-requires : tie.Need-card-of-requires
-card-of-requires c κs = search needs
+card-of-numbers-requires : tie.Need-card-of-numbers-requires
+card-of-numbers-requires c κs = search needs
 
 fill-table-requires : tie.Need-fill-table-requires
 fill-table-requires c κs = search needs
@@ -35,9 +35,9 @@ returns c =
     let gave = filled .ensures in
     subst
     (Gives (filled .result) (c .before .before .before .before .args .table .now) _)
-    (c .before .before .before .card-of .ensures)
+    (c .before .before .before .card-of-numbers .ensures)
     (ap (λ (r : Reply). r .number) (gave .0), (ap (λ (r : Reply). r .count) (gave .0), gave .1))
 
 pub pippinterm-fill-table-spec : {M : Type 1} → statement M
 pippinterm-fill-table-spec =
-    tie.close (tie.spec card-of-requires fill-table-requires same-length returns)
+    tie.close (tie.spec card-of-numbers-requires fill-table-requires same-length returns)

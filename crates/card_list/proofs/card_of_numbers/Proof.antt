@@ -1,10 +1,10 @@
--- `capi::card_of` meets its contract: each number stands at its place.
+-- `card_list::card_of_numbers` meets its contract: each number stands at its place.
 -- Assumes nothing.
 use borrow.Author.Needs.{needs}
 use mathlib.Core.Path.{refl}
-use Rattle.capi.proofs.card_of.Statement.{statement}
-use Rattle.capi.proofs.card_of.Tie as tie
+use Rattle.card_list.proofs.card_of_numbers.Statement.{statement}
+use Rattle.card_list.proofs.card_of_numbers.Tie as tie
 use Rattle.card_list.specs.List.{cardFrom}
 
 element-copy-out-t4 : tie.Need-element-copy-out-t4
 element-copy-out-t4 c = search needs
@@ -34,8 +34,8 @@ returns : tie.Need-returns
 unfolding cardFrom
 returns c = refl
 
-pub card-of-spec : {M : Type 1} → statement M
-card-of-spec =
+pub card-of-numbers-spec : {M : Type 1} → statement M
+card-of-numbers-spec =
     tie.close
     (tie.spec
     element-copy-out-t4

@@ -1,0 +1,5 @@
+pub mod Day
+pub mod Parts
+pub mod Numbers
+pub mod Readings
+pub mod Reckoning

@@ -1,5 +1,6 @@
 /*
- * Pippinterm: the table of heights of a curve card, and the book of cards.
+ * Pippinterm: the table of heights of a curve card, a day's cards in one table,
+ * and the book of cards.
  *
  * Link target/staticlib/libcapi.a, which `rt staticlib capi` proves and builds
  * for x86-64 and the System V calling convention, as gcc has it there, and for
@@ -12,10 +13,11 @@
  *
  * No call asks for a test beforehand: every card, every text and every length
  * has its reply. Only the C side can see to this much:
- *   - a pointer leads to as many numbers as are said to be there, and they lie
- *     as C aligns them. A table, a text or a list may be NULL where the length
- *     given with it is 0; card, count and line are never NULL, since a card has
- *     its eight numbers in every call, and count and line are always written;
+ *   - a pointer leads to as many numbers or cards as are said to be there, and
+ *     they lie as C aligns them. A table, a text, a list, a day's cards or its reply
+ *     list may be NULL where the length given with it is 0; card, count and
+ *     line are never NULL, since a card has its eight numbers in every call, and
+ *     count and line are always written;
  *   - what is lent for writing in one call shares no memory with anything else
  *     that is lent in it, and nothing else writes to what is lent while the
  *     call runs.
@@ -62,9 +64,17 @@ extern "C" {
 #define PIPPINTERM_CURVE_CARD 2       /* the eight numbers of its card begin here */
 #define PIPPINTERM_CURVE_NUMBERS 10
 
+/* The numbers of a card in the reply list of a day, in their order. */
+#define PIPPINTERM_REPLY_NUMBER 0     /* 0, or the reason that refuses the card */
+#define PIPPINTERM_REPLY_COUNT 1      /* its count of rows, 0 where it is refused */
+#define PIPPINTERM_REPLY_NUMBERS 2
+
 /* Sizes. */
 #define PIPPINTERM_MOST_ROWS 301      /* no card has more rows */
 #define PIPPINTERM_ENOUGH_TABLE 2107  /* numbers of a table that is long enough for every card */
+#define PIPPINTERM_MOST_CARDS 64      /* no day has more cards */
+#define PIPPINTERM_ENOUGH_DAY 134848  /* numbers of a table that is long enough for every day */
+#define PIPPINTERM_ENOUGH_REPLIES 128 /* numbers of a reply list that is long enough for every day */
 #define PIPPINTERM_MOST_CURVES 64     /* no book has more curves */
 #define PIPPINTERM_MOST_BYTES 8192    /* a text above this is refused */
 #define PIPPINTERM_LEAST_LIST 640     /* a list below this is refused; enough for every book */
@@ -86,7 +96,7 @@ extern "C" {
      200:70  250:80  300:90  400:100  500:110  600:120  700:120  800:120
      1000:120  2000:100 */
 
-/* What a turned-away card or book says: the trade's word, and the condition.
+/* What a turned-away card, book or day says: the trade's word, and the condition.
    A line is malformed where it is missing, not ended by byte 10, or anything
    else than: a number (the count line); a name, one blank and a number (a
    contents line); eight numbers with one blank between (a body). A number is 1
@@ -113,6 +123,8 @@ extern "C" {
 #define PIPPINTERM_REFUSED_BODY 26            /* body: malformed */
 #define PIPPINTERM_REFUSED_TAIL 27            /* tail: bytes after the last body */
 #define PIPPINTERM_REFUSED_SHORT_LIST 28      /* short list: below 640 numbers; line 0 */
+#define PIPPINTERM_REFUSED_MANY_CARDS 29      /* many cards: more than 64 in one call */
+#define PIPPINTERM_REFUSED_SHORT_REPLIES 30   /* short reply list: below two numbers a card */
 
 /*
  * Checks a card.
@@ -134,6 +146,32 @@ uint32_t pippinterm_check_card(const uint32_t card[PIPPINTERM_CARD_NUMBERS]);
 uint32_t pippinterm_fill_table(const uint32_t card[PIPPINTERM_CARD_NUMBERS],
                                int32_t *table, size_t table_length,
                                uint32_t *count);
+
+/*
+ * Fills one table with the rows of a whole day's cards.
+ * Gives 0 for a list of at most 64 cards and a reply list of two numbers a card
+ * or more: *count is then the count of cards, accepted or not. Each card, in
+ * order, gets the part of the table that the cards before it have not used: its
+ * reply and its rows are those of pippinterm_fill_table on that part. A refused
+ * card uses nothing, and the next is tried, so that after a card that the rest
+ * of the table is too short for, 11, a shorter one may still fit. The number and
+ * the count of rows of card i, counted from 0, stand in replies[2 x i] and
+ * replies[2 x i + 1]; its rows begin at 7 x the sum of the counts of the cards
+ * before it.
+ * The table's numbers after the last rows, and the reply list's after the last
+ * card's two, are as they were. No cards at all are right: 0, and *count is 0.
+ * Else gives 29 for more than 64 cards, then 30 for a shorter reply list: *count
+ * is then 0, and the table and the reply list are as they were.
+ * cards_length is in cards of eight numbers, table_length and replies_length are
+ * in numbers; each may be any, 0 too. Cards that are not const are handed over as
+ * they are; only C before C23 with -pedantic wants the cast
+ * (const uint32_t (*)[PIPPINTERM_CARD_NUMBERS])cards.
+ */
+uint32_t pippinterm_fill_day(const uint32_t (*cards)[PIPPINTERM_CARD_NUMBERS],
+                             size_t cards_length,
+                             int32_t *table, size_t table_length,
+                             uint32_t *replies, size_t replies_length,
+                             uint32_t *count);
 
 /*
  * Reads a book of cards into a list.

@@ -1,6 +1,7 @@
 // The calls for firmware in C: the library's own, with the card as its eight numbers and the reply as a number and counts.
 use book::read_book;
 use card_list::card_of_numbers;
+use day::fill_day_of_numbers;
 use runoff::check_card;
 use runoff::fill_table;
 ghost use mathlib.Core.Path.{_≡_};
@@ -9,7 +10,9 @@ ghost use lib.ListN.{length};
 ghost use Rattle.runoff.specs.Refusal.{refusal};
 ghost use Rattle.runoff.specs.Table.{replyTo, tableAfter};
 ghost use Rattle.runoff.specs.Climbing.{ClimbingTable};
-ghost use Rattle.card_list.specs.List.{cardOf};
+ghost use Rattle.card_list.specs.List.{cardOf, cardsOf};
+ghost use Rattle.day.specs.Day.{dayReply, dayTable, dayReplies};
+ghost use Rattle.day.specs.Parts.{ClimbingDay};
 ghost use Rattle.book.specs.Book.{replyToBook, listAfter};
 
 // 0 for an accepted card, else the number of the first of its own reasons: 1 to 6, 8, 9 or 10.
@@ -33,6 +36,26 @@ pub extern "C" fn pippinterm_fill_table(card: &[u32; 8], table: &mut [i32], coun
     let reply = fill_table(c, table);
     let rows = reply.count;
     *count = rows;
+    reply.number
+}
+
+// Fills the lent table with the rows of a day's cards, eight numbers each, and the reply list with each card's number and count: 0, and `count` has how many cards; or 29 or 30, `count` has 0, and both are as they were.
+#[no_mangle]
+pub extern "C" fn pippinterm_fill_day(
+    cards: &[[u32; 8]],
+    table: &mut [i32],
+    replies: &mut [u32],
+    count: &mut u32,
+) -> u32
+    ensures { λ r. ⌜ r ≡ dayReply (length (now (cards .entry))) (length (now (replies .entry))) .number ⌝ }
+    ensures { λ _. ⌜ now (count .exit) ≡ dayReply (length (now (cards .entry))) (length (now (replies .entry))) .count ⌝ }
+    ensures { λ _. ⌜ now (table .exit) ≡ dayTable (cardsOf (now (cards .entry))) (now (table .entry)) (now (replies .entry)) ⌝ }
+    ensures { λ _. ⌜ now (replies .exit) ≡ dayReplies (cardsOf (now (cards .entry))) (now (table .entry)) (now (replies .entry)) ⌝ }
+    ensures { λ r. ⌜ (r ≡ 0 → ClimbingDay (cardsOf (now (cards .entry))) (now (table .exit)) (now (replies .exit))) ⌝ }
+{
+    let reply = fill_day_of_numbers(cards, table, replies);
+    let taken = reply.count;
+    *count = taken;
     reply.number
 }
 

@@ -1,17 +1,20 @@
 //! The paper "Superelevation runoff about the axis, categories II to V" (document 01), rule by rule,
-//! with what document 02 changes in it: Slip 1, "The bank is widened, the shoulder is kept".
+//! with what document 02 changes and adds: Slip 1, "The bank is widened, the shoulder is kept";
+//! Slip 2, "A whole day's cards in one call".
 //!
 //! Written to be read beside the papers: their words, their order, exact fractions throughout.
 #![forbid(unsafe_code)]
 
 pub mod book;
 pub mod card;
+pub mod day;
 pub mod fraction;
 pub mod rows;
 pub mod section;
 
 pub use book::{read_book, BookReply};
 pub use card::{check_card, Card, Profile};
+pub use day::{fill_day, DayReply};
 pub use rows::{fill_table, rows, stations, TableReply};
 
 #[cfg(test)]
@@ -20,3 +23,5 @@ mod kept_shoulder;
 mod printed;
 #[cfg(test)]
 mod readings;
+#[cfg(test)]
+mod whole_day;

@@ -6,9 +6,16 @@ use crate::section::{Course, Runoff};
 use crate::{check_card, fill_table, read_book, rows, BookReply, Card, TableReply};
 
 const RAMP_BOOK: &[u8] = b"1\nRAMP 3\n5 1 30 30000 60 600 20000 1\n";
-const RAMP: [u32; 8] = [5, 1, 30, 30000, 60, 600, 20000, 1];
+pub const RAMP: [u32; 8] = [5, 1, 30, 30000, 60, 600, 20000, 1];
+/// The three rows that the paper prints for RAMP.
+#[rustfmt::skip]
+pub const RAMP_ROWS: [i32; 21] = [
+    0, 0, 0, 105, 172, 105, 52,
+    20000, 400, 12, 93, 172, 240, 292,
+    30000, 600, -68, 1, 172, 307, 412,
+];
 /// Profile 3, R 700, L 120000, v 40, W 400, unit 10.
-const FLAT: [u32; 8] = [3, 1, 700, 120_000, 40, 400, 20000, 10];
+pub const FLAT: [u32; 8] = [3, 1, 700, 120_000, 40, 400, 20000, 10];
 
 fn course(numbers: [u32; 8]) -> Course {
     Runoff::new(&Card::new(&numbers)).course
@@ -42,9 +49,7 @@ fn ramp_rows() {
         count: 3,
     };
     assert_eq!(reply, due);
-    assert_eq!(table[..7], [0, 0, 0, 105, 172, 105, 52]);
-    assert_eq!(table[7..14], [20000, 400, 12, 93, 172, 240, 292]);
-    assert_eq!(table[14..21], [30000, 600, -68, 1, 172, 307, 412]);
+    assert_eq!(table[..21], RAMP_ROWS);
     assert_eq!(table[21], 77);
 }
 

@@ -6,7 +6,8 @@ pub const HEADER: &str = include_str!("../../../include/pippinterm.h");
 
 /// "What a turned-away card or book says", by the trade's word, which the header puts behind `REFUSED`.
 /// The constant for 7 stays, though "Number 7 never occurs again" (document 02, Slip 1).
-const REFUSALS: [(&str, u32); 19] = [
+/// Slip 2 has no words for 29 and 30: these are the header's own.
+const REFUSALS: [(&str, u32); 21] = [
     ("profile", 1),
     ("terrain", 2),
     ("radius", 3),
@@ -26,10 +27,12 @@ const REFUSALS: [(&str, u32); 19] = [
     ("body", 26),
     ("tail", 27),
     ("short list", 28),
+    ("many cards", 29),
+    ("short replies", 30),
 ];
 
-/// The card, the row, the list, and the sizes; 0 for an accepted card or book.
-const OTHERS: [(&str, u32); 27] = [
+/// The card, the row, the list, a day's replies, and the sizes; 0 for an accepted card, day or book.
+const OTHERS: [(&str, u32); 33] = [
     ("accepted", 0),
     ("card profile", 0),
     ("card terrain", 1),
@@ -52,8 +55,14 @@ const OTHERS: [(&str, u32); 27] = [
     ("curve name size", 1),
     ("curve card", 2),
     ("curve numbers", 10),
+    ("reply number", 0),
+    ("reply count", 1),
+    ("reply numbers", 2),
     ("most rows", 300_000 / 1000 + 1),
     ("enough table", 7 * 301),
+    ("most cards", 64),
+    ("enough day", 64 * 7 * 301),
+    ("enough replies", 2 * 64),
     ("most curves", 64),
     ("most bytes", 8192),
     ("least list", 640),

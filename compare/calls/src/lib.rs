@@ -1,4 +1,4 @@
-//! The library's three calls, over slices. An empty slice crosses as NULL, as the header allows.
+//! The library's four calls, over slices. An empty slice crosses as NULL, as the header allows.
 
 #[cfg(test)]
 mod header;
@@ -13,6 +13,15 @@ extern "C" {
         card: *const u32,
         table: *mut i32,
         table_length: usize,
+        count: *mut u32,
+    ) -> u32;
+    fn pippinterm_fill_day(
+        cards: *const [u32; 8],
+        cards_length: usize,
+        table: *mut i32,
+        table_length: usize,
+        replies: *mut u32,
+        replies_length: usize,
         count: *mut u32,
     ) -> u32;
     fn pippinterm_read_book(
@@ -54,6 +63,30 @@ pub fn fill_table(card: &[u32; 8], table: &mut [i32], count: &mut u32) -> u32 {
     let (length, table) = (table.len(), start_mut(table));
     // SAFETY: every place lent here is its slice's own, with its true length.
     unsafe { pippinterm_fill_table(card.as_ptr(), table, length, count) }
+}
+
+/// Fills the table and the reply list, sets the count of cards and gives the reply number.
+pub fn fill_day(
+    cards: &[[u32; 8]],
+    table: &mut [i32],
+    replies: &mut [u32],
+    count: &mut u32,
+) -> u32 {
+    let (cards_length, cards) = (cards.len(), start(cards));
+    let (length, table) = (table.len(), start_mut(table));
+    let (replies_length, replies) = (replies.len(), start_mut(replies));
+    // SAFETY: every place lent here is its slice's own, with its true length.
+    unsafe {
+        pippinterm_fill_day(
+            cards,
+            cards_length,
+            table,
+            length,
+            replies,
+            replies_length,
+            count,
+        )
+    }
 }
 
 /// Fills the list, sets the count of curves and the line, and gives the reply number.

@@ -1,7 +1,7 @@
 //! How much stack the calls take: less than the header says.
 
 use crate::header::HEADER;
-use crate::{check_card, fill_table, read_book};
+use crate::{check_card, fill_day, fill_table, read_book};
 use std::arch::asm;
 
 /// What the header says, and the same in bytes.
@@ -9,6 +9,11 @@ const WORDS: &str = "less than 4 KB of stack";
 const SAID: usize = 4096;
 /// What the draft of a book's list takes by itself; a measure below it would measure nothing.
 const DRAFT: usize = 640 * 4;
+
+/// Cards of 3 and of 7 rows, and one that is refused.
+const EVEN: [u32; 8] = [5, 1, 30, 30_000, 60, 600, 20_000, 1];
+const TWO_STAGE: [u32; 8] = [3, 1, 700, 120_000, 40, 400, 20_000, 10];
+const WRONG_UNIT: [u32; 8] = [3, 1, 700, 120_000, 40, 400, 20_000, 2];
 
 const PAINT: u8 = 0xa5;
 const SIZE: usize = 64 * 1024;
@@ -68,11 +73,7 @@ fn reading_a_book() {
 
 #[test]
 fn a_cards_table() {
-    // Even, and in two stages.
-    for card in [
-        [5, 1, 30, 30_000, 60, 600, 20_000, 1],
-        [3, 1, 700, 120_000, 40, 400, 20_000, 10],
-    ] {
+    for card in [EVEN, TWO_STAGE] {
         let (mut table, mut number, mut count) = ([0; 49], 1, 0);
         let taken = taken(|| {
             number = check_card(&card) + fill_table(&card, &mut table, &mut count);
@@ -80,4 +81,17 @@ fn a_cards_table() {
         assert_eq!((number, table[7 * count as usize - 7]), (0, card[3] as i32));
         assert!((1..SAID).contains(&taken), "{taken} bytes");
     }
+}
+
+/// A full day; the table is one number short for its last card.
+#[test]
+fn a_days_cards() {
+    let cards = [EVEN, TWO_STAGE, WRONG_UNIT, EVEN].repeat(16);
+    let mut table = vec![0; 16 * (21 + 49 + 21) - 1];
+    let (mut replies, mut number, mut count) = ([1; 128], 1, 0);
+    let taken = taken(|| number = fill_day(&cards, &mut table, &mut replies, &mut count));
+    assert_eq!((number, count), (0, 64));
+    assert_eq!(replies[..8], [0, 3, 0, 7, 10, 0, 0, 3]);
+    assert_eq!(replies[120..], [0, 3, 0, 7, 10, 0, 11, 0]);
+    assert!((1..SAID).contains(&taken), "{taken} bytes");
 }

@@ -6,7 +6,7 @@ use crate::card_case::{self, CardAnswer, CardCase};
 use crate::cards;
 use crate::lent::Unlike;
 use crate::seeded::Seeded;
-use crate::tally::{Tally, FROM_A_BOOK};
+use crate::tally::{Altered, Tally, FROM_A_BOOK};
 use crate::words;
 use std::sync::atomic::{AtomicU64, Ordering};
 use std::thread;
@@ -136,25 +136,33 @@ fn is_found(unlike: &[Unlike]) -> bool {
     unlike.len() == 1
 }
 
+type Alterations<A> = [(&'static str, fn(&mut A, &mut Seeded) -> bool)];
+
 /// Alters the answer that came at each sort of place in turn.
-fn alter_card(case: &CardCase, seeded: &mut Seeded, tally: &mut Tally) {
-    for (place, (_, alter)) in card_case::ALTERATIONS.iter().enumerate() {
-        let mut answer: CardAnswer = case.came.clone();
+fn alter_each<A: Clone>(
+    (due, came): (&A, &A),
+    unlike: fn(&A, &A) -> Vec<Unlike>,
+    alterations: &Alterations<A>,
+    seeded: &mut Seeded,
+    tally: &mut [Altered],
+) {
+    for ((_, alter), altered) in alterations.iter().zip(tally) {
+        let mut answer = came.clone();
         if alter(&mut answer, seeded) {
-            let found = is_found(&case.due.unlike(&answer));
-            tally.altered_cards[place].made += 1;
-            tally.altered_cards[place].found += u64::from(found);
+            altered.made += 1;
+            altered.found += u64::from(is_found(&unlike(due, &answer)));
         }
     }
 }
 
+fn alter_card(case: &CardCase, seeded: &mut Seeded, tally: &mut Tally) {
+    let answers = (&case.due, &case.came);
+    let (alterations, tally) = (&card_case::ALTERATIONS, &mut tally.altered_cards);
+    alter_each(answers, CardAnswer::unlike, alterations, seeded, tally);
+}
+
 fn alter_book(case: &BookCase, seeded: &mut Seeded, tally: &mut Tally) {
-    for (place, (_, alter)) in book_case::ALTERATIONS.iter().enumerate() {
-        let mut answer: BookAnswer = case.came.clone();
-        if alter(&mut answer, seeded) {
-            let found = is_found(&case.due.unlike(&answer));
-            tally.altered_books[place].made += 1;
-            tally.altered_books[place].found += u64::from(found);
-        }
-    }
+    let answers = (&case.due, &case.came);
+    let (alterations, tally) = (&book_case::ALTERATIONS, &mut tally.altered_books);
+    alter_each(answers, BookAnswer::unlike, alterations, seeded, tally);
 }

@@ -9,10 +9,10 @@ pub type Numbers = [u32; 8];
 const PROFILE: usize = 0;
 const TERRAIN: usize = 1;
 const RADIUS: usize = 2;
-const LENGTH: usize = 3;
+pub const LENGTH: usize = 3;
 const SLOPE: usize = 4;
 const WIDENING: usize = 5;
-const STEP: usize = 6;
+pub const STEP: usize = 6;
 const UNIT: usize = 7;
 
 /// Makes a seeded card.

@@ -59,6 +59,12 @@ impl<T: Number> Lent<T> {
         }
     }
 
+    /// The same, with so many guards more behind them: what is written far past the end shows too.
+    pub fn filled_before(length: usize, more: usize, seeded: &mut Seeded) -> Lent<T> {
+        let lent = Lent::filled(length + more, seeded);
+        Lent { length, ..lent }
+    }
+
     /// The given numbers, between seeded guards; `beyond` follows right behind them.
     pub fn holding(numbers: &[T], beyond: &[T], seeded: &mut Seeded) -> Lent<T> {
         let mut lent = Lent::filled(numbers.len(), seeded);

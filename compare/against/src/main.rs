@@ -1,6 +1,6 @@
-//! Compares the compiled library with the paper's rules, card by card and book by book.
+//! Compares the compiled library with the paper's rules, card by card, book by book and day by day.
 //!
-//! `against [--cards N] [--books N] [--seed S]`: the same words give the same output.
+//! `against [--cards N] [--books N] [--days N] [--seed S]`: the same words give the same output.
 //! Ends well only without differences, with every reply met, no other one given, and every altered answer found.
 #![forbid(unsafe_code)]
 
@@ -8,12 +8,16 @@ mod book_case;
 mod books;
 mod card_case;
 mod cards;
+mod day_case;
+mod day_tally;
+mod days;
 mod lent;
 mod seeded;
 mod tally;
 mod words;
 mod work;
 
+use day_tally::{DayTally, DAY_REPLIES, PLACES, SORTS as DAY_SORTS};
 use std::env;
 use std::process::ExitCode;
 use tally::{Altered, Tally, BOOK_REPLIES, CARD_REPLIES, SORTS};
@@ -23,10 +27,13 @@ use work::Asked;
 const DEFAULT: Asked = Asked {
     cards: 1_000_000,
     books: 200_000,
+    days: 20_000,
     seed: 20_260_101,
 };
 /// How often each reply must be met in a run of the default size.
 const OFTEN: u64 = 100;
+/// The same for each reply and each sort of days, which are fewer.
+const OFTEN_IN_DAYS: u64 = 10;
 
 fn asked() -> Result<Asked, String> {
     let mut asked = DEFAULT;
@@ -35,6 +42,7 @@ fn asked() -> Result<Asked, String> {
         let place = match word.as_str() {
             "--cards" => &mut asked.cards,
             "--books" => &mut asked.books,
+            "--days" => &mut asked.days,
             "--seed" => &mut asked.seed,
             _ => return Err(format!("unknown word {word}")),
         };
@@ -47,8 +55,8 @@ fn asked() -> Result<Asked, String> {
 /// Everything, besides differences, for which the run does not count as evidence.
 fn lacks(asked: Asked, tally: &Tally) -> Vec<String> {
     let mut lacks = Vec::new();
-    let often = |size, default| if size >= default { OFTEN } else { 1 };
-    let cards_often = often(asked.cards, DEFAULT.cards);
+    let often = |size, default, often| if size >= default { often } else { 1 };
+    let cards_often = often(asked.cards, DEFAULT.cards, OFTEN);
     for (place, reply) in CARD_REPLIES.iter().enumerate() {
         let met = tally.card_reply(place);
         lacks.extend(rarely(&format!("card reply {reply}"), met, cards_often));
@@ -57,16 +65,40 @@ fn lacks(asked: Asked, tally: &Tally) -> Vec<String> {
         let met = tally.sort(place);
         lacks.extend(rarely(&format!("runoffs {sort}"), met, cards_often));
     }
-    let books_often = often(asked.books, DEFAULT.books);
+    let books_often = often(asked.books, DEFAULT.books, OFTEN);
     for (place, reply) in BOOK_REPLIES.iter().enumerate() {
         let met = tally.book_reply(place);
         lacks.extend(rarely(&format!("book reply {reply}"), met, books_often));
     }
+    let days_often = often(asked.days, DEFAULT.days, OFTEN_IN_DAYS);
+    lacks.extend(day_lacks(&tally.days, days_often));
     let unlisted = tally.unlisted;
     lacks.extend((unlisted > 0).then(|| format!("a listed reply to {unlisted} cards")));
     let whole = asked.cards >= DEFAULT.cards && asked.books >= DEFAULT.books;
+    let whole = whole && asked.days >= DEFAULT.days;
     lacks.extend(unseen("card", &tally.altered_cards, whole));
     lacks.extend(unseen("book", &tally.altered_books, whole));
+    lacks.extend(unseen("day", &tally.days.altered, whole));
+    lacks
+}
+
+/// Replies to days, to their cards at each place, and sorts of days that are met too rarely.
+fn day_lacks(tally: &DayTally, due: u64) -> Vec<String> {
+    let mut lacks = Vec::new();
+    for (place, reply) in DAY_REPLIES.iter().enumerate() {
+        let met = tally.day_reply(place);
+        lacks.extend(rarely(&format!("day reply {reply}"), met, due));
+    }
+    for (place, counts) in PLACES.iter().zip(&tally.cards) {
+        let replies = CARD_REPLIES.iter().zip(counts);
+        let rarely = |(reply, &met)| rarely(&format!("reply {reply} to a card {place}"), met, due);
+        lacks.extend(replies.filter_map(rarely));
+    }
+    for ((sort, _), &met) in DAY_SORTS.iter().zip(&tally.sorts) {
+        lacks.extend(rarely(&format!("day with {sort}"), met, due));
+    }
+    let unlisted = tally.unlisted;
+    lacks.extend((unlisted > 0).then(|| format!("a listed reply in {unlisted} days")));
     lacks
 }
 
@@ -76,7 +108,7 @@ fn rarely(what: &str, met: u64, due: u64) -> Option<String> {
 
 /// Altered answers must all be found; in a whole run each place is altered at least once.
 fn unseen(what: &str, altered: &[Altered], whole: bool) -> Option<String> {
-    let all = words::total(altered, &[]);
+    let all = words::total(altered);
     let never = altered.iter().any(|altered| altered.made == 0);
     if all.made == 0 || all.made != all.found || (whole && never) {
         return Some(format!("altered {what} answers not all made and found"));
@@ -88,7 +120,7 @@ fn main() -> ExitCode {
     let asked = match asked() {
         Ok(asked) => asked,
         Err(fault) => {
-            eprintln!("{fault}\nagainst [--cards N] [--books N] [--seed S]");
+            eprintln!("{fault}\nagainst [--cards N] [--books N] [--days N] [--seed S]");
             return ExitCode::from(2);
         }
     };
@@ -98,9 +130,11 @@ fn main() -> ExitCode {
     println!();
     words::print_differences(&tally);
     lacks.iter().for_each(|lack| println!("Lacking: {lack}"));
-    let (cards, books) = (asked.cards, asked.books);
+    let Asked {
+        cards, books, days, ..
+    } = asked;
     println!(
-        "{cards} cards, {books} books, {} differences",
+        "{cards} cards, {books} books, {days} days, {} differences",
         tally.differing
     );
     if tally.differing == 0 && lacks.is_empty() {

@@ -4,6 +4,7 @@ use crate::book_case::{self, BookCase};
 use crate::books;
 use crate::card_case::{self, CardAnswer, CardCase, CLASSES};
 use crate::cards;
+use crate::day_tally::DayTally;
 use paper::card::profile;
 use paper::section::{Course, Runoff};
 use paper::Card;
@@ -56,15 +57,16 @@ pub struct Tally {
     pub list_numbers: u64,
     pub altered_cards: [Altered; card_case::ALTERATIONS.len()],
     pub altered_books: [Altered; book_case::ALTERATIONS.len()],
+    pub days: DayTally,
     pub differing: u64,
     pub differences: Vec<Difference>,
 }
 
-fn add_numbers<const N: usize>(to: &mut [u64; N], from: &[u64; N]) {
+pub fn add_numbers<const N: usize>(to: &mut [u64; N], from: &[u64; N]) {
     to.iter_mut().zip(from).for_each(|(to, from)| *to += from);
 }
 
-fn add_altered(to: &mut [Altered], from: &[Altered]) {
+pub fn add_altered(to: &mut [Altered], from: &[Altered]) {
     for (to, from) in to.iter_mut().zip(from) {
         to.made += from.made;
         to.found += from.found;
@@ -123,6 +125,7 @@ impl Tally {
         }
         add_altered(&mut self.altered_cards, &other.altered_cards);
         add_altered(&mut self.altered_books, &other.altered_books);
+        self.days.add(&other.days);
         self.unlisted += other.unlisted;
         self.rows += other.rows;
         self.table_numbers += other.table_numbers;

@@ -4,6 +4,9 @@ use crate::book_case::{self, BookAnswer, BookCase};
 use crate::books;
 use crate::card_case::{self, CardAnswer, CardCase, CLASSES};
 use crate::cards;
+use crate::day_case::{self, DayAnswer, DayCase};
+use crate::day_tally::{DAY_REPLIES, PLACES, SORTS as DAY_SORTS};
+use crate::days::{self, MOST_CARDS};
 use crate::lent::Unlike;
 use crate::tally::{Altered, Tally, BOOK_REPLIES, CARD_REPLIES, SORTS};
 use std::fmt::Arguments;
@@ -13,13 +16,13 @@ const NAMED: usize = 20;
 
 /// One line of a table of counts.
 fn line(name: &str, counts: &[u64]) {
-    print!("{name:>28}");
+    print!("{name:>32}");
     counts.iter().for_each(|count| print!(" {count:>11}"));
     println!();
 }
 
 fn heading(name: &str, columns: &[String]) {
-    print!("{name:>28}");
+    print!("{name:>32}");
     columns.iter().for_each(|column| print!(" {column:>11}"));
     println!();
 }
@@ -32,6 +35,8 @@ pub fn print_tally(tally: &Tally) {
     print_cards(tally);
     println!();
     print_books(tally);
+    println!();
+    print_days(tally);
     println!();
     print_altered(tally);
 }
@@ -78,6 +83,29 @@ fn print_books(tally: &Tally) {
     println!("{curves} curves compared; {numbers} numbers and bytes, tails and guards too");
 }
 
+fn print_days(tally: &Tally) {
+    let tally = &tally.days;
+    heading("Days by reply", &DAY_REPLIES.map(|reply| reply.to_string()));
+    for ((name, _), counts) in days::KINDS.iter().zip(&tally.days) {
+        line(name, counts);
+    }
+    line("all", &sum(&tally.days));
+    println!();
+    let replies = CARD_REPLIES.map(|reply| reply.to_string());
+    heading("Cards of days by reply", &replies);
+    for (name, counts) in PLACES.iter().zip(&tally.cards) {
+        line(name, counts);
+    }
+    line("all", &sum(&tally.cards));
+    println!();
+    heading("Days by sort", &["met".to_string()]);
+    for ((name, _), met) in DAY_SORTS.iter().zip(&tally.sorts) {
+        line(name, &[*met]);
+    }
+    let (rows, numbers) = (tally.rows, tally.numbers);
+    println!("{rows} rows compared; {numbers} numbers, tails and guards too");
+}
+
 fn print_altered(tally: &Tally) {
     heading(
         "Altered on purpose",
@@ -89,15 +117,18 @@ fn print_altered(tally: &Tally) {
     for ((name, _), altered) in book_case::ALTERATIONS.iter().zip(&tally.altered_books) {
         line(&format!("book: {name}"), &[altered.made, altered.found]);
     }
-    let all = total(&tally.altered_cards, &tally.altered_books);
+    for ((name, _), altered) in day_case::ALTERATIONS.iter().zip(&tally.days.altered) {
+        line(&format!("day: {name}"), &[altered.made, altered.found]);
+    }
+    let (cards, books) = (&tally.altered_cards[..], &tally.altered_books[..]);
+    let all = total(&[cards, books, &tally.days.altered].concat());
     println!("{} altered answers, {} found", all.made, all.found);
 }
 
-pub fn total(cards: &[Altered], books: &[Altered]) -> Altered {
-    let both = || cards.iter().chain(books);
+pub fn total(places: &[Altered]) -> Altered {
     Altered {
-        made: both().map(|altered| altered.made).sum(),
-        found: both().map(|altered| altered.found).sum(),
+        made: places.iter().map(|altered| altered.made).sum(),
+        found: places.iter().map(|altered| altered.found).sum(),
     }
 }
 
@@ -110,8 +141,13 @@ pub fn print_differences(tally: &Tally) {
     }
 }
 
+/// The numbers of a card, as a book has them.
+fn numbers(card: &cards::Numbers) -> String {
+    card.map(|number| number.to_string()).join(" ")
+}
+
 pub fn card_difference(origin: &Arguments, case: &CardCase, unlike: &[Unlike]) -> String {
-    let card = case.card.map(|number| number.to_string()).join(" ");
+    let card = numbers(&case.card);
     let length = case.due.table.numbers().len();
     let mut words = format!("card ({origin})\n  card {card}\n  table of {length} numbers\n");
     words += &format!("  due: {}\n", card_words(&case.due));
@@ -140,6 +176,25 @@ fn book_words(answer: &BookAnswer) -> String {
     let reply = answer.reply;
     let (count, line) = (answer.count.numbers()[0], answer.line.numbers()[0]);
     format!("reply {reply}, count {count}, line {line}")
+}
+
+pub fn day_difference(origin: &Arguments, case: &DayCase, unlike: &[Unlike]) -> String {
+    let cards = case.due.cards();
+    let mut words = format!("day ({origin})\n  {} cards\n", cards.len());
+    for card in cards.iter().take(MOST_CARDS) {
+        words += &format!("  card {}\n", numbers(card));
+    }
+    let table = case.due.table.numbers().len();
+    let replies = case.due.replies.numbers().len();
+    words += &format!("  table of {table} numbers, reply list of {replies}\n");
+    words += &format!("  due: {}\n", day_words(&case.due));
+    words += &format!("  came: {}\n", day_words(&case.came));
+    words + &places(unlike)
+}
+
+fn day_words(answer: &DayAnswer) -> String {
+    let (reply, count) = (answer.reply, answer.count.numbers()[0]);
+    format!("reply {reply}, count {count}")
 }
 
 fn places(unlike: &[Unlike]) -> String {

@@ -4,20 +4,27 @@ use crate::book_case::{self, BookAnswer, BookCase};
 use crate::books;
 use crate::card_case::{self, CardAnswer, CardCase};
 use crate::cards;
+use crate::day_case::{self, Call, DayAnswer, DayCase};
+use crate::days;
 use crate::lent::Unlike;
 use crate::seeded::Seeded;
 use crate::tally::{Altered, Tally, FROM_A_BOOK};
 use crate::words;
+use std::fmt::Arguments;
+use std::ops::Range;
 use std::sync::atomic::{AtomicU64, Ordering};
 use std::thread;
 
-/// Cases in a piece; one of them is altered as well.
+/// Cards or books in a piece, and days, which are longer; one of them is altered as well.
 const PIECE: u64 = 1000;
+const DAYS_PIECE: u64 = 100;
 /// Sorts of seeded numbers.
 const CARD: u64 = 1;
 const BOOK: u64 = 2;
 const ALTERED_CARD: u64 = 3;
 const ALTERED_BOOK: u64 = 4;
+const DAY: u64 = 5;
+const ALTERED_DAY: u64 = 6;
 /// One accepted book in so many has its cards filled into tables too.
 const BOOKS_FILLED: usize = 4;
 
@@ -25,6 +32,7 @@ const BOOKS_FILLED: usize = 4;
 pub struct Asked {
     pub cards: u64,
     pub books: u64,
+    pub days: u64,
     pub seed: u64,
 }
 
@@ -46,14 +54,17 @@ pub fn all(asked: Asked) -> Tally {
 /// Takes the next piece until there is none left.
 fn pieces(asked: Asked, next: &AtomicU64) -> Tally {
     let card_pieces = asked.cards.div_ceil(PIECE);
-    let book_pieces = asked.books.div_ceil(PIECE);
+    let books_end = card_pieces + asked.books.div_ceil(PIECE);
+    let days_end = books_end + asked.days.div_ceil(DAYS_PIECE);
     let mut tally = Tally::default();
     loop {
         let piece = next.fetch_add(1, Ordering::Relaxed);
         if piece < card_pieces {
             cards_of(piece, piece, asked, &mut tally);
-        } else if piece < card_pieces + book_pieces {
+        } else if piece < books_end {
             books_of(piece, piece - card_pieces, asked, &mut tally);
+        } else if piece < days_end {
+            days_of(piece, piece - books_end, asked, &mut tally);
         } else {
             return tally;
         }
@@ -61,15 +72,15 @@ fn pieces(asked: Asked, next: &AtomicU64) -> Tally {
 }
 
 /// The indices of the n-th piece, and the one among them that is altered.
-fn indices(nth: u64, total: u64, altered: &mut Seeded) -> (std::ops::Range<u64>, u64) {
-    let range = nth * PIECE..total.min((nth + 1) * PIECE);
+fn indices(nth: u64, piece: u64, total: u64, altered: &mut Seeded) -> (Range<u64>, u64) {
+    let range = nth * piece..total.min((nth + 1) * piece);
     let chosen = range.start + altered.next() % (range.end - range.start);
     (range, chosen)
 }
 
 fn cards_of(piece: u64, nth: u64, asked: Asked, tally: &mut Tally) {
     let mut altered = Seeded::new(asked.seed, ALTERED_CARD, nth);
-    let (range, chosen) = indices(nth, asked.cards, &mut altered);
+    let (range, chosen) = indices(nth, PIECE, asked.cards, &mut altered);
     for index in range {
         let mut seeded = Seeded::new(asked.seed, CARD, index);
         let kind = index as usize % cards::KINDS.len();
@@ -84,12 +95,7 @@ fn cards_of(piece: u64, nth: u64, asked: Asked, tally: &mut Tally) {
 }
 
 /// True when nothing differs.
-fn compare_card(
-    piece: u64,
-    origin: &std::fmt::Arguments,
-    case: &CardCase,
-    tally: &mut Tally,
-) -> bool {
+fn compare_card(piece: u64, origin: &Arguments, case: &CardCase, tally: &mut Tally) -> bool {
     let unlike = case.due.unlike(&case.came);
     if !unlike.is_empty() {
         tally.differs(piece, || words::card_difference(origin, case, &unlike));
@@ -99,7 +105,7 @@ fn compare_card(
 
 fn books_of(piece: u64, nth: u64, asked: Asked, tally: &mut Tally) {
     let mut altered = Seeded::new(asked.seed, ALTERED_BOOK, nth);
-    let (range, chosen) = indices(nth, asked.books, &mut altered);
+    let (range, chosen) = indices(nth, PIECE, asked.books, &mut altered);
     for index in range {
         let mut seeded = Seeded::new(asked.seed, BOOK, index);
         let kind = index as usize % books::KINDS.len();
@@ -128,6 +134,33 @@ fn fill_tables(piece: u64, index: u64, case: &BookCase, seeded: &mut Seeded, tal
         let origin = format_args!("curve {curve} of book index {index}");
         compare_card(piece, &origin, &case, tally);
         tally.count_card(FROM_A_BOOK, &case);
+    }
+}
+
+/// The kind of the day of that index, and its answers by the paper and by the call.
+pub fn day(seed: u64, index: u64, call: Call) -> (usize, DayCase) {
+    let mut seeded = Seeded::new(seed, DAY, index);
+    let kind = index as usize % days::KINDS.len();
+    let (_, make) = days::KINDS[kind];
+    let cards = make(&mut seeded);
+    let day = days::day(cards, &mut seeded);
+    (kind, day_case::run(&day, call, &mut seeded))
+}
+
+fn days_of(piece: u64, nth: u64, asked: Asked, tally: &mut Tally) {
+    let mut altered = Seeded::new(asked.seed, ALTERED_DAY, nth);
+    let (range, chosen) = indices(nth, DAYS_PIECE, asked.days, &mut altered);
+    for index in range {
+        let (kind, case) = day(asked.seed, index, day_case::library);
+        let unlike = case.due.unlike(&case.came);
+        let (name, _) = days::KINDS[kind];
+        let origin = format_args!("{name}, index {index}");
+        tally.days.count(kind, &case);
+        if !unlike.is_empty() {
+            tally.differs(piece, || words::day_difference(&origin, &case, &unlike));
+        } else if index == chosen {
+            alter_day(&case, &mut altered, tally);
+        }
     }
 }
 
@@ -165,4 +198,10 @@ fn alter_book(case: &BookCase, seeded: &mut Seeded, tally: &mut Tally) {
     let answers = (&case.due, &case.came);
     let (alterations, tally) = (&book_case::ALTERATIONS, &mut tally.altered_books);
     alter_each(answers, BookAnswer::unlike, alterations, seeded, tally);
+}
+
+fn alter_day(case: &DayCase, seeded: &mut Seeded, tally: &mut Tally) {
+    let answers = (&case.due, &case.came);
+    let (alterations, tally) = (&day_case::ALTERATIONS, &mut tally.days.altered);
+    alter_each(answers, DayAnswer::unlike, alterations, seeded, tally);
 }

@@ -16,6 +16,8 @@ mod seeded;
 mod tally;
 mod words;
 mod work;
+#[cfg(test)]
+mod wrong_days;
 
 use day_tally::{DayTally, DAY_REPLIES, PLACES, SORTS as DAY_SORTS};
 use std::env;

@@ -169,4 +169,5 @@ def main():
             print(*line)
 
 
-main()
+if __name__ == "__main__":
+    main()

@@ -124,7 +124,7 @@ extern "C" {
 #define PIPPINTERM_REFUSED_TAIL 27            /* tail: bytes after the last body */
 #define PIPPINTERM_REFUSED_SHORT_LIST 28      /* short list: below 640 numbers; line 0 */
 #define PIPPINTERM_REFUSED_MANY_CARDS 29      /* many cards: more than 64 in one call */
-#define PIPPINTERM_REFUSED_SHORT_REPLIES 30   /* short reply list: below two numbers a card */
+#define PIPPINTERM_REFUSED_SHORT_REPLIES 30   /* short replies: a reply list below two numbers a card */
 
 /*
  * Checks a card.

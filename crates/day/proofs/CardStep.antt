@@ -1,6 +1,6 @@
 -- One card of a day: what a single call on the rest of the table leaves, put together.
 -- Assumes nothing.
-use mathlib.Core.Path.{_≡_, refl}
+use mathlib.Core.Path.{_≡_}
 use mathlib.Core.List.{List, [], _++_, append-nil}
 use Prim.Native.Nat.{ℕ, _+_, _*_, _-_}
 use lib.IntN.{ℤ}

@@ -3,7 +3,7 @@
 -- Assumes nothing.
 use mathlib.Core.Path.{_≡_, refl, ap, sym, _∙_}
 use mathlib.Core.Bool.{Bool, true, false, cond}
-use mathlib.Core.List.{List, [], _∷_, _++_, append-nil, append-assoc}
+use mathlib.Core.List.{List, [], _∷_, _++_, append-assoc}
 use mathlib.Core.WellFounded.{WellFounded, InvImage·wf}
 use Prim.Native.Nat.{ℕ, suc, _+_, _*_, _-_, _≤_, _<_}
 use native.Mathlib.Nat.{sub-zero}
@@ -13,7 +13,7 @@ use lib.Dec.{eqb}
 use lib.IntN.{ℤ}
 use lib.ListN.{length, take, drop, getD, set, length-drop, length-set, length-map, take-append-drop, List·getD-map}
 use lib.WfN.{Nat·lt-wfRel}
-use lib.Seq.{take-length, length-take-le, drop-cons, drop-length, getD-take, take-append-add, drop-append-add, take-suc-set, take-set-le, drop-set-lt}
+use lib.Seq.{take-length, length-take-le, drop-cons, drop-length, getD-take, take-append-add, drop-append-add, take-suc-set, drop-set-lt}
 use borrow.Author.Tests.{eqb-true}
 use Rattle.card.specs.declared.Card.{Card}
 use Rattle.card.specs.declared.Reply.{Reply}
@@ -35,15 +35,15 @@ pub card-at : (bodies : List (List ℕ)) (i : ℕ) → getD (cardsOf bodies) i (
 card-at bodies i = List·getD-map cardOf bodies i []
 
 -- ---- the cards that are taken: all of them, or on a refusal none
-taken-by : (b : Bool) (count room n : ℕ) → (b ≡ true → replyWidth * count ≤ room) → (cond b count 0 ≤ count) × (replyWidth * cond b count 0 ≤ room)
-taken-by true count room n h = (omega arith, h refl)
-taken-by false count room n h = (omega arith, omega arith)
+taken-by : (b : Bool) (count room : ℕ) → (b ≡ true → replyWidth * count ≤ room) → (cond b count 0 ≤ count) × (replyWidth * cond b count 0 ≤ room)
+taken-by true count room h = (omega arith, h refl)
+taken-by false count room h = (omega arith, omega arith)
 
 -- they are there, and so are their places in the reply list
 taken : (count room : ℕ) → (dayReply count room .count ≤ count) × (replyWidth * (dayReply count room .count) ≤ room)
 unfolding dayReply replyBy
 taken count room =
-    taken-by (eqb (dayNumber count room) 0) count room 0 (λ e. room-for-replies count room (eqb-true _ 0 e))
+    taken-by (eqb (dayNumber count room) 0) count room (λ e. room-for-replies count room (eqb-true _ 0 e))
 
 module _ (cs : List Card) (ts₀ : List ℤ) (rs₀ : List ℕ) where
   -- what n cards leave

@@ -13,9 +13,8 @@ use borrow.Author.Tests.{eqb-true, eqb-false}
 use Rattle.card.specs.declared.Card.{Card}
 use Rattle.runoff.specs.Rows.{rowWidth}
 use Rattle.runoff.specs.Table.{replyTo, tableAfter}
-use Rattle.runoff.specs.Climbing.{ClimbingTable}
 use Rattle.day.specs.Day.{replyWidth, dayNumber, usedBy, tableOf, repliesOf, dayTable, dayReplies}
-use Rattle.day.specs.Parts.{numberIn, countIn, startIn, restIn, partIn, PartOf, DayLeft, DayTheorem, ClimbingDay}
+use Rattle.day.specs.Parts.{numberIn, countIn, startIn, restIn, PartOf, DayLeft, DayTheorem, ClimbingDay}
 use Rattle.day.proofs.SingleCall.{uses-within, same-long, climbs-after, climbs-in-part, refused-counts, uses-few, enough-room}
 use Rattle.day.proofs.DayNumbers.{room-for-replies}
 

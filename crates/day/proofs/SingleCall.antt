@@ -1,21 +1,21 @@
 -- What a single call on a part of the table leaves: the card uses no more than its room, and what it does not use is as it was.
 -- Assumes nothing.
-use mathlib.Core.Path.{_≡_, refl, ap, sym, _∙_}
+use mathlib.Core.Path.{_≡_, refl, sym, _∙_}
 use mathlib.Core.Bool.{Bool, true, false, cond}
 use mathlib.Core.List.{List, _++_}
-use Prim.Native.Nat.{ℕ, _+_, _*_, _-_, _≤_, _<_}
+use Prim.Native.Nat.{ℕ, _+_, _*_, _≤_, _<_}
 use native.Mathlib.Omega.{arith}
 use native.Mathlib.Nat.{mul-zero}
 use lib.Dec.{eqb}
 use lib.IntN.{ℤ, pos}
-use lib.ListN.{length, getD, take, drop, length-append, length-drop}
+use lib.ListN.{length, take, drop, length-append, length-drop}
 use lib.Seq.{drop-at, getD-take, length-take-le}
 use borrow.Author.Tests.{eqb-true, eqb-false}
 use Rattle.card.specs.declared.Card.{Card}
-use Rattle.card.specs.Reasons.{testsRoom, refusalRoom}
+use Rattle.card.specs.Reasons.{testsRoom}
 use Rattle.card.specs.Table.{replyBy, tableBy}
 use Rattle.card.proofs.Tests.{first-then, then-none, room-first, room-held}
-use Rattle.runoff.specs.Rows.{rowWidth, rowCount, rows, stationOf}
+use Rattle.runoff.specs.Rows.{rowWidth, rowCount, rows}
 use Rattle.runoff.specs.Refusal.{ownTests, refusal}
 use Rattle.runoff.specs.Table.{replyNumber, replyTo, tableAfter}
 use Rattle.runoff.specs.Climbing.{stationIn, outerEdgeIn, ClimbingTable}

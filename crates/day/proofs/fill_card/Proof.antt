@@ -2,10 +2,8 @@
 -- Assumes nothing.
 use borrow.Author.Needs.{needs}
 use Prim.Native.Nat.{_-_}
-use native.Mathlib.Omega.{arith}
-use lib.ListN.{length, take, drop}
 use denote.Ref.{now}
-use Rattle.day.proofs.CardStep.{put-together, part-length}
+use Rattle.day.proofs.CardStep.{put-together}
 use Rattle.day.proofs.fill_card.Statement.{statement}
 use Rattle.day.proofs.fill_card.Tie as tie
 

@@ -1,11 +1,11 @@
 -- `day::fill_day_of_numbers` meets its contract. What a turn means is `DayLoop.antt`'s, as for `fill_day`.
 -- Assumes nothing.
 use borrow.Author.Needs.{needs}
-use mathlib.Core.Path.{_≡_, refl, sym, ap, _∙_}
-use Prim.Native.Nat.{ℕ, _-_, _<_}
+use mathlib.Core.Path.{refl}
+use Prim.Native.Nat.{_-_, _<_}
 use native.Mathlib.Omega.{arith}
 use mathlib.Core.List.{[]}
-use lib.ListN.{length, getD}
+use lib.ListN.{length}
 use denote.Ref.{now}
 use Rattle.card_list.specs.List.{cardOf, cardsOf}
 use Rattle.day.proofs.DayLoop.{cards-long, card-at, Turn, first-turn, fits, next-turn, last-turn}

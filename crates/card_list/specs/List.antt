@@ -31,15 +31,20 @@ cardFrom list at =
 abbrev pub cardOf : List ℕ → Card
 cardOf numbers = cardFrom numbers 0
 
--- the cards of a list of such bodies, in order
-abbrev pub cardsOf : List (List ℕ) → List Card
-cardsOf bodies = map cardOf bodies
-
 -- THEOREM (proofs/EightNumbers.antt): they are the card's, in the card's order
 abbrev pub EightNumbers : Type 0
 EightNumbers =
     (profile terrain R L v W step unit : ℕ) →
     cardOf (profile ∷ terrain ∷ R ∷ L ∷ v ∷ W ∷ step ∷ unit ∷ []) ≡ card profile terrain R L v W step unit
+
+-- the cards of a list of such bodies, in order
+abbrev pub cardsOf : List (List ℕ) → List Card
+cardsOf bodies = map cardOf bodies
+
+-- THEOREM (proofs/EightNumbers.antt): each body's card, one after the other
+pub record CardsInOrder : Type 0 where
+  pub none : cardsOf [] ≡ []
+  pub more : (body : List ℕ) (bodies : List (List ℕ)) → cardsOf (body ∷ bodies) ≡ cardOf body ∷ cardsOf bodies
 
 -- the card of a curve in a list, counted from 0: behind the place and the length of its name
 abbrev pub cardIn : List ℕ → ℕ → Card

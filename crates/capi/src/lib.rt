@@ -39,7 +39,8 @@ pub extern "C" fn pippinterm_fill_table(card: &[u32; 8], table: &mut [i32], coun
     reply.number
 }
 
-// Fills the lent table with the rows of a day's cards, eight numbers each, and the reply list with each card's number and count: 0, and `count` has how many cards; or 29 or 30, `count` has 0, and both are as they were.
+// Fills the lent table with the rows of a day's cards, eight numbers each, and the reply list with each card's number and count: 0, and `count`
+// has how many cards; or 29 or 30, `count` has 0, and both are as they were.
 #[no_mangle]
 pub extern "C" fn pippinterm_fill_day(
     cards: &[[u32; 8]],

@@ -175,7 +175,7 @@ module _ (cs : List Card) (ts₀ : List ℤ) (rs₀ : List ℕ) where
             in-replies = t .in-replies;
             table-long = lt ∙ t .table-long;
             replies-long = lr ∙ t .replies-long;
-            within = omega (arith, s .more, lt, t .within, uses-within card room);
+            within = omega (arith, s .more, lt, t .within, rw (length-drop u ts) at (uses-within card (drop u ts)));
             table-so-far = rw add-one table-next;
             replies-so-far = rw add-one (rw add-one at replies-next);
           }

@@ -9,13 +9,13 @@ use lib.Dec.{eqb}
 use lib.IntN.{ℤ}
 use lib.ListN.{length, getD, take, drop, length-append, length-drop}
 use lib.Seq.{take-at, drop-at, drop-drop, drop-append-add, length-take-le}
-use borrow.Author.Tests.{eqb-true, eqb-false}
+use borrow.Author.Tests.{eqb-true, eqb-false, ne-eqb}
 use Rattle.card.specs.declared.Card.{Card}
 use Rattle.runoff.specs.Rows.{rowWidth}
 use Rattle.runoff.specs.Table.{replyTo, tableAfter}
 use Rattle.day.specs.Day.{replyWidth, dayNumber, usedBy, tableOf, repliesOf, dayTable, dayReplies}
-use Rattle.day.specs.Parts.{numberIn, countIn, startIn, restIn, PartOf, DayLeft, DayTheorem, ClimbingDay}
-use Rattle.day.proofs.SingleCall.{uses-within, same-long, climbs-after, climbs-in-part, refused-counts, uses-few, enough-room}
+use Rattle.day.specs.Parts.{numberIn, countIn, startIn, restIn, PartOf, DayLeft, DayTheorem, RefusedTheorem, ClimbingDay}
+use Rattle.day.proofs.SingleCall.{uses-within, same-long, climbs-after, climbs-in-part, refused-counts, uses-few, own-only}
 use Rattle.day.proofs.DayNumbers.{room-for-replies}
 
 -- ---- a reply list with one card more before it
@@ -60,7 +60,7 @@ module _ (card : Card) (cs : List Card) (old : List ℤ) (kept : List ℕ) where
   all = replyTo card (length old) .number ∷ replyTo card (length old) .count ∷ others
 
   long-own : length own ≡ used
-  long-own = length-take-le used (tableAfter card old) (rw (same-long card old) (uses-within card (length old)))
+  long-own = length-take-le used (tableAfter card old) (rw (same-long card old) (uses-within card old))
 
   -- the rest that a later card is given, before the call and after it
   rest-before : (i : ℕ) → restIn all (suc i) old ≡ restIn others i rest
@@ -78,9 +78,9 @@ module _ (card : Card) (cs : List Card) (old : List ℤ) (kept : List ℕ) where
         number = refl;
         count = refl;
         rows = take-at own left used long-own;
-        refused = λ ne. rw (refused-counts card (length old) ne) (omega arith);
+        refused = λ ne. rw (refused-counts card old ne) (omega arith);
         climbs = λ z. rw (take-at own left used long-own) (climbs-in-part card _ _ (climbs-after card old z));
-        enough = λ h. enough-room card (length old) (omega arith);
+        enough = λ h. own-only card old (omega (arith, h));
       }
 
   later-part : (it : Card) (i : ℕ) → PartOf it i rest left others → PartOf it (suc i) old (own ++ left) all
@@ -95,7 +95,7 @@ module _ (card : Card) (cs : List Card) (old : List ℤ) (kept : List ℕ) where
             let same = p .refused (λ z. ne (later-number n c others i ∙ z)) in
             omega (arith, same, later-start n c others i, later-start n c others (suc i));
         climbs = λ z. rw (later-count n c others i, rest-after i) (p .climbs (sym (later-number n c others i) ∙ z));
-        enough = λ h. later-number n c others i ∙ p .enough (rw (length-drop used old) (omega (arith, h, uses-few card (length old))));
+        enough = λ h. later-number n c others i ∙ p .enough (rw (length-drop used old) (omega (arith, h, uses-few card old)));
       }
 
 -- ---- all the cards of a list
@@ -119,7 +119,7 @@ module _ (kept : List ℕ) where
   ends-within (card ∷ cards) old =
       let used = usedBy card (length old) in
       let inside = rw (length-drop used old) at (ends-within cards (drop used old)) in
-      omega (arith, inside, uses-within card (length old), later-start (replyTo card (length old) .number) (replyTo card (length old) .count) (others card cards old kept) (length cards))
+      omega (arith, inside, uses-within card old, later-start (replyTo card (length old) .number) (replyTo card (length old) .count) (others card cards old kept) (length cards))
 
   past-kept : (cards : List Card) (old : List ℤ) → drop (ends cards old) (tableOf cards old) ≡ drop (ends cards old) old
   unfolding tableOf repliesOf
@@ -136,7 +136,7 @@ same-table-long [] old = refl
 same-table-long (card ∷ cards) old =
     let used = usedBy card (length old) in
     rw (length-append, long-own card cards old [], same-table-long cards (drop used old), length-drop used old)
-    (omega (arith, uses-within card (length old)))
+    (omega (arith, uses-within card old))
 
 -- two numbers a card
 replies-length : (cards : List Card) (room : ℕ) → length (repliesOf cards room) ≡ replyWidth * length cards
@@ -185,6 +185,12 @@ module _ (cards : List Card) (old : List ℤ) (listed : List ℕ) (right : dayNu
 
 pub day-left : DayTheorem
 day-left cards old listed right = rw (table-is cards old listed right, replies-is cards old listed right) (left-so cards old listed right)
+
+pub refused-left : RefusedTheorem
+unfolding dayTable dayReplies
+refused-left cards table replies ne =
+    let refused = ne-eqb (dayNumber (length cards) (length replies)) 0 ne in
+    (rw refused, rw refused)
 
 pub climbing-day :
     (cards : List Card) (old : List ℤ) (listed : List ℕ) → dayNumber (length cards) (length listed) ≡ 0 →

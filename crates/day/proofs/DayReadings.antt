@@ -28,10 +28,14 @@ day-readings =
       most = refl;
       most-short = refl;
       too-many = λ room. refl;
-      refused-between = refl;
+      refused-last = refl;
       refused-counted = refl;
       refused-accepted = refl;
-      refused-between-rows = rw (readings .ramp-rows);
       shorter-fits = refl;
       shorter-fits-rows = rw (readings .ramp-rows);
+      short-replies = refl;
+      short-table = refl;
+      longest-fits = refl;
+      longest-short = refl;
+      enough = (refl, refl);
     }

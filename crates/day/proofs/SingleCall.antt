@@ -1,83 +1,103 @@
--- What a single call on a part of the table leaves: the card uses no more than its room, and what it does not use is as it was.
+-- What a single call on a part of the table leaves, by the laws of that call: the card uses no more than its room, and what it does not use is
+-- as it was.
 -- Assumes nothing.
-use mathlib.Core.Path.{_≡_, refl, sym, _∙_}
-use mathlib.Core.Bool.{Bool, true, false, cond}
+use mathlib.Core.Path.{_≡_, refl, ap, sym, _∙_}
+use mathlib.Core.Bool.{Bool, true, false}
 use mathlib.Core.List.{List, _++_}
 use Prim.Native.Nat.{ℕ, _+_, _*_, _≤_, _<_}
 use native.Mathlib.Omega.{arith}
-use native.Mathlib.Nat.{mul-zero}
 use lib.Dec.{eqb}
 use lib.IntN.{ℤ, pos}
 use lib.ListN.{length, take, drop, length-append, length-drop}
 use lib.Seq.{drop-at, getD-take, length-take-le}
 use borrow.Author.Tests.{eqb-true, eqb-false}
 use Rattle.card.specs.declared.Card.{Card}
-use Rattle.card.specs.Reasons.{testsRoom}
-use Rattle.card.specs.Table.{replyBy, tableBy}
-use Rattle.card.proofs.Tests.{first-then, then-none, room-first, room-held}
+use Rattle.card.specs.declared.Reply.{Reply}
+use Rattle.card.specs.Reasons.{refusalRoom}
+use Rattle.card.proofs.Tests.{room-held}
 use Rattle.runoff.specs.Rows.{rowWidth, rowCount, rows}
-use Rattle.runoff.specs.Refusal.{ownTests, refusal}
-use Rattle.runoff.specs.Table.{replyNumber, replyTo, tableAfter}
+use Rattle.runoff.specs.Refusal.{refusal}
+use Rattle.runoff.specs.Table.{replyTo, tableAfter}
 use Rattle.runoff.specs.Climbing.{stationIn, outerEdgeIn, ClimbingTable}
-use Rattle.card.proofs.Replies.{number-own, number-none}
 use Rattle.runoff.proofs.Accepts.{accepted-rule}
 use Rattle.runoff.proofs.RowBlocks.{length-rows}
 use Rattle.runoff.proofs.ClimbingTable.{climbing-table}
+use Rattle.runoff.proofs.Replies.{refused, short, filled}
 use Rattle.day.specs.Day.{usedBy}
-use Rattle.day.specs.Parts.{enoughNumbers}
+use Rattle.day.specs.Parts.{enoughFor}
 
--- 0 is given to a card that none of its own reasons refuses, and whose rows have room
-passes : (card : Card) (room : ℕ) → replyNumber card room ≡ 0 → (refusal card ≡ 0) × (rowWidth * rowCount card ≤ room)
-unfolding replyNumber refusal
-passes card room e =
-    let last = testsRoom rowWidth (rowCount card) room in
-    let both = then-none _ _ (sym (first-then (ownTests card) last refl) ∙ e) in
-    (both .0, room-held rowWidth (rowCount card) room .0 (sym (room-first rowWidth (rowCount card) room) ∙ both .1))
-
--- the numbers that a card uses of its room, by whether its number is 0
-abbrev usedIf : Card → Bool → ℕ
-usedIf card b = rowWidth * cond b (rowCount card) 0
-
-within-if : (card : Card) (room : ℕ) (b : Bool) → eqb (replyNumber card room) 0 ≡ b → usedIf card b ≤ room
-within-if card room true e = passes card room (eqb-true _ 0 e) .1
-within-if card room false e = rw (mul-zero rowWidth) (omega arith)
-
-pub uses-within : (card : Card) (room : ℕ) → usedBy card room ≤ room
-unfolding replyTo replyBy
-uses-within card room = within-if card room (eqb (replyNumber card room) 0) refl
-
-module _ (card : Card) (table : List ℤ) where
+module _ (card : Card) (old : List ℤ) where
   abbrev room : ℕ
-  room = length table
+  room = length old
 
-  abbrev afterIf : Bool → List ℤ
-  afterIf b = cond b (rows card ++ drop (rowWidth * rowCount card) table) table
+  -- the numbers that the rows of an accepted card take, and the table with these rows
+  abbrev wanted : ℕ
+  wanted = rowWidth * rowCount card
 
-  long-if : (b : Bool) → eqb (replyNumber card room) 0 ≡ b → length (afterIf b) ≡ room
-  long-if true e = rw (length-append, length-drop, length-rows card) (omega (arith, passes card room (eqb-true _ 0 e) .1))
-  long-if false e = refl
+  abbrev written : List ℤ
+  written = rows card ++ drop wanted old
+
+  -- a card is refused, and the table is as it was; or it is accepted, and its rows are written
+  either :
+      (P : Reply → List ℤ → Type 0) → ((n : ℕ) → (n ≡ 0 → ⊥) → P (record { number = n; count = 0 }) old) →
+      (refusal card ≡ 0 → wanted ≤ room → P (record { number = 0; count = rowCount card }) written) →
+      P (replyTo card room) (tableAfter card old)
+  either P away taken = own (eqb (refusal card) 0) refl
+    where
+      fits : refusal card ≡ 0 → (b : Bool) → eqb (refusalRoom rowWidth (rowCount card) room) 0 ≡ b → P (replyTo card room) (tableAfter card old)
+      fits passes true e =
+          let held = room-held rowWidth (rowCount card) room .0 (eqb-true _ 0 e) in
+          let due = filled card old passes refl held refl in
+          rw (← due .0, ← due .1 .0) (taken passes held)
+      fits passes false e =
+          let due = short card old passes refl refl (eqb-false _ 0 e) in
+          rw (← due .0, ← due .1 .0) (away _ (eqb-false _ 0 e))
+
+      own : (b : Bool) → eqb (refusal card) 0 ≡ b → P (replyTo card room) (tableAfter card old)
+      own true e = fits (eqb-true _ 0 e) (eqb (refusalRoom rowWidth (rowCount card) room) 0) refl
+      own false e =
+          let due = refused card old refl (eqb-false _ 0 e) in
+          rw (← due .0, ← due .1 .0) (away _ (eqb-false _ 0 e))
+
+  -- a card uses no more than its room
+  pub uses-within : usedBy card room ≤ room
+  uses-within = either (λ r t. rowWidth * r .count ≤ room) (λ n ne. omega arith) (λ passes held. held)
+
+  -- nor more than 301 rows take
+  pub uses-few : usedBy card room ≤ enoughFor 1
+  uses-few = either (λ r t. rowWidth * r .count ≤ enoughFor 1) (λ n ne. omega arith) (λ passes held. omega (arith, accepted-rule card .few passes))
+
+  -- a refused card counts no row
+  pub refused-counts : ¬ (replyTo card room .number ≡ 0) → replyTo card room .count ≡ 0
+  refused-counts = either (λ r t. ¬ (r .number ≡ 0) → r .count ≡ 0) (λ n ne _. refl) (λ passes held some. absurd (some refl))
 
   -- the table is as long as it was
-  pub same-long : length (tableAfter card table) ≡ room
-  unfolding tableAfter tableBy
-  same-long = long-if (eqb (replyNumber card room) 0) refl
-
-  rest-if : (b : Bool) → drop (usedIf card b) (afterIf b) ≡ drop (usedIf card b) table
-  rest-if true = drop-at (rows card) (drop (rowWidth * rowCount card) table) (rowWidth * rowCount card) (length-rows card)
-  rest-if false = refl
+  pub same-long : length (tableAfter card old) ≡ room
+  same-long =
+      either (λ r t. length t ≡ room) (λ n ne. refl)
+      (λ passes held. rw (length-append, length-drop, length-rows card) (omega (arith, held)))
 
   -- the numbers that the card does not use are as they were
-  pub same-rest : drop (usedBy card room) (tableAfter card table) ≡ drop (usedBy card room) table
-  unfolding replyTo replyBy tableAfter tableBy
-  same-rest = rest-if (eqb (replyNumber card room) 0)
+  pub same-rest : drop (usedBy card room) (tableAfter card old) ≡ drop (usedBy card room) old
+  same-rest =
+      either (λ r t. drop (rowWidth * r .count) t ≡ drop (rowWidth * r .count) old) (λ n ne. refl)
+      (λ passes held. drop-at (rows card) (drop wanted old) wanted (length-rows card))
 
-  climbs-if : (b : Bool) → eqb (replyNumber card room) 0 ≡ b → replyNumber card room ≡ 0 → ClimbingTable card (cond b (rowCount card) 0) (afterIf b)
-  climbs-if true e z = climbing-table card (drop (rowWidth * rowCount card) table) (passes card room z .0)
-  climbs-if false e z = absurd (eqb-false _ 0 e z)
+  pub climbs-after : replyTo card room .number ≡ 0 → ClimbingTable card (replyTo card room .count) (tableAfter card old)
+  climbs-after =
+      either (λ r t. r .number ≡ 0 → ClimbingTable card (r .count) t) (λ n ne z. absurd (ne z))
+      (λ passes held _. climbing-table card (drop wanted old) passes)
 
-  pub climbs-after : replyTo card room .number ≡ 0 → ClimbingTable card (replyTo card room .count) (tableAfter card table)
-  unfolding replyTo replyBy tableAfter tableBy
-  climbs-after z = climbs-if (eqb (replyNumber card room) 0) refl z
+  -- where there is room for 301 rows, only the card's own reasons refuse it
+  pub own-only : enoughFor 1 ≤ room → replyTo card room .number ≡ refusal card
+  own-only enough = go (eqb (refusal card) 0) refl
+    where
+      go : (b : Bool) → eqb (refusal card) 0 ≡ b → replyTo card room .number ≡ refusal card
+      go true e =
+          let passes = eqb-true _ 0 e in
+          let due = filled card old passes refl (omega (arith, enough, accepted-rule card .few passes)) refl in
+          sym (ap (λ (r : Reply). r .number) (due .0)) ∙ sym passes
+      go false e = sym (ap (λ (r : Reply). r .number) (refused card old refl (eqb-false _ 0 e) .0))
 
 -- demand 3 speaks of the counted rows only
 module _ (card : Card) (count : ℕ) (table : List ℤ) (t : ClimbingTable card count table) where
@@ -99,32 +119,3 @@ module _ (card : Card) (count : ℕ) (table : List ℤ) (t : ClimbingTable card 
         exact = t .exact;
         rows = λ i j h g. rw (same-outer-edge i (omega arith), same-outer-edge j g) (t .rows i j h g);
       }
-
--- ---- a refused card counts no row, and a card's own reasons are all where the table has 2107 numbers
-counts-if : (card : Card) (room : ℕ) (b : Bool) → eqb (replyNumber card room) 0 ≡ b → ¬ (replyNumber card room ≡ 0) → cond b (rowCount card) 0 ≡ 0
-counts-if card room true e ne = absurd (ne (eqb-true _ 0 e))
-counts-if card room false e ne = refl
-
-pub refused-counts : (card : Card) (room : ℕ) → ¬ (replyTo card room .number ≡ 0) → replyTo card room .count ≡ 0
-unfolding replyTo replyBy
-refused-counts card room ne = counts-if card room (eqb (replyNumber card room) 0) refl ne
-
-few-if : (card : Card) (room : ℕ) (b : Bool) → eqb (replyNumber card room) 0 ≡ b → usedIf card b ≤ enoughNumbers
-few-if card room true e = omega (arith, accepted-rule card .few (passes card room (eqb-true _ 0 e) .0))
-few-if card room false e = rw (mul-zero rowWidth) (omega arith)
-
--- no card uses more
-pub uses-few : (card : Card) (room : ℕ) → usedBy card room ≤ enoughNumbers
-unfolding replyTo replyBy
-uses-few card room = few-if card room (eqb (replyNumber card room) 0) refl
-
-own-if : (card : Card) (room : ℕ) → enoughNumbers ≤ room → (b : Bool) → eqb (refusal card) 0 ≡ b → replyNumber card room ≡ refusal card
-unfolding replyNumber refusal
-own-if card room h true e =
-    let none = eqb-true _ 0 e in
-    number-none (ownTests card) refl rowWidth (rowCount card) room none (omega (arith, accepted-rule card .few none)) ∙ sym none
-own-if card room h false e = number-own (ownTests card) refl rowWidth (rowCount card) room (eqb-false _ 0 e)
-
-pub enough-room : (card : Card) (room : ℕ) → enoughNumbers ≤ room → replyTo card room .number ≡ refusal card
-unfolding replyTo replyBy
-enough-room card room h = own-if card room h (eqb (refusal card) 0) refl

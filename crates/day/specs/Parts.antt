@@ -40,9 +40,9 @@ restIn replies i table = drop (startIn replies i) table
 abbrev pub partIn : List ℕ → ℕ → List ℤ → List ℤ
 partIn replies i table = take (rowWidth * countIn replies i) (restIn replies i table)
 
--- a table of 2107 numbers a card is long enough for every day
-abbrev pub enoughNumbers : ℕ
-enoughNumbers = 2107
+-- no card has more than 301 rows, so that so many numbers are enough for k cards
+abbrev pub enoughFor : ℕ → ℕ
+enoughFor k = rowWidth * 301 * k
 
 -- what card i has in the reply list `replies` and the table `table`, where the table was `old`
 pub record PartOf (card : Card) (i : ℕ) (old table : List ℤ) (replies : List ℕ) : Type 0 where
@@ -55,14 +55,14 @@ pub record PartOf (card : Card) (i : ℕ) (old table : List ℤ) (replies : List
   pub refused : ¬ (numberIn replies i ≡ 0) → startIn replies (suc i) ≡ startIn replies i
   -- demand 3 holds of the part of an accepted card
   pub climbs : numberIn replies i ≡ 0 → ClimbingTable card (countIn replies i) (partIn replies i table)
-  -- where the table has 2107 numbers for each card up to this one, it is refused for its own reasons only, and never with 11
-  pub enough : enoughNumbers * suc i ≤ length old → numberIn replies i ≡ refusal card
+  -- where the table is long enough for the cards up to this one, it is refused for its own reasons only, and never with 11
+  pub enough : enoughFor (suc i) ≤ length old → numberIn replies i ≡ refusal card
 
 -- what the call leaves: table and reply list were `old` and `listed`, and are `table` and `replies`
 pub record DayLeft (cards : List Card) (old : List ℤ) (listed : List ℕ) (table : List ℤ) (replies : List ℕ) : Type 0 where
   -- each card has its part (`none` stands for no card of the list)
   pub parts : (i : ℕ) (none : Card) → i < length cards → PartOf (getD cards i none) i old table replies
-  -- parts do not overlap: that of a later card begins where that of an earlier one ends, or behind it
+  -- parts do not overlap: that of a later card begins where that of an earlier one ends, or behind it (this follows from where parts begin)
   pub apart : (i j : ℕ) → i < j → j < length cards → startIn replies i + rowWidth * countIn replies i ≤ startIn replies j
   -- the last of them ends in the table
   pub within : startIn replies (length cards) ≤ length old
@@ -78,6 +78,12 @@ abbrev pub DayTheorem : Type 0
 DayTheorem =
     (cards : List Card) (table : List ℤ) (replies : List ℕ) → dayNumber (length cards) (length replies) ≡ 0 →
     DayLeft cards table replies (dayTable cards table replies) (dayReplies cards table replies)
+
+-- THEOREM (proofs/DayParts.antt): "leaving table and reply list untouched": so a call leaves them that it refuses
+abbrev pub RefusedTheorem : Type 0
+RefusedTheorem =
+    (cards : List Card) (table : List ℤ) (replies : List ℕ) → ¬ (dayNumber (length cards) (length replies) ≡ 0) →
+    (dayTable cards table replies ≡ table) × (dayReplies cards table replies ≡ replies)
 
 -- demand 3 of every accepted card's part, as the call's contract has it
 abbrev pub ClimbingDay : List Card → List ℤ → List ℕ → Type 0

@@ -4,13 +4,13 @@ use mathlib.Core.Path.{_≡_}
 use mathlib.Core.List.{List, [], _∷_, _++_}
 use Prim.Native.Nat.{ℕ}
 use lib.IntN.{ℤ, pos}
-use lib.ListN.{replicate}
+use lib.ListN.{length, replicate}
 use Rattle.card.specs.declared.Card.{Card}
 use Rattle.card.specs.declared.Reply.{Reply}
 use Rattle.card.specs.Card.{card, ramp}
 use Rattle.runoff.specs.Rows.{rows}
-use Rattle.day.specs.Day.{dayReply, tableOf, repliesOf, dayTable, dayReplies}
-use Rattle.day.specs.Parts.{acceptedIn}
+use Rattle.day.specs.Day.{mostCards, dayReply, repliesOf, dayTable, dayReplies}
+use Rattle.day.specs.Parts.{acceptedIn, enoughFor}
 
 abbrev reply : ℕ → ℕ → Reply
 reply n k = record { number = n; count = k }
@@ -22,6 +22,17 @@ steep = card 5 1 30 30000 61 600 20000 1
 abbrev pub close : Card
 close = card 5 1 30 30000 60 600 10000 1
 
+-- the most rows that a card can have: 300 m, and a row every metre
+abbrev pub longest : Card
+longest = card 2 2 400 300000 60 1200 1000 1
+
+abbrev pub mixed : List Card
+mixed = ramp ∷ close ∷ steep ∷ ramp ∷ ramp ∷ []
+
+-- a table of 45 numbers, each of them 7
+abbrev pub marks : List ℤ
+marks = replicate 45 (pos 7)
+
 -- THEOREM (proofs/DayReadings.antt)
 pub record Readings : Type 0 where
   -- no cards at all: 0 and 0, and nothing is touched
@@ -32,14 +43,19 @@ pub record Readings : Type 0 where
   pub most : dayReply 64 128 ≡ reply 0 64
   pub most-short : dayReply 64 127 ≡ reply 30 0
   pub too-many : (room : ℕ) → dayReply 65 room ≡ reply 29 0
-  -- RAMP, a card that is refused, and RAMP again: each RAMP has its three rows, and the card between them uses nothing
-  pub refused-between : repliesOf (ramp ∷ steep ∷ ramp ∷ []) 45 ≡ 0 ∷ 3 ∷ 5 ∷ 0 ∷ 0 ∷ 3 ∷ []
-  -- the call counts the three cards, of which two are accepted
-  pub refused-counted : dayReply 3 6 ≡ reply 0 3
-  pub refused-accepted : acceptedIn (repliesOf (ramp ∷ steep ∷ ramp ∷ []) 45) 3 ≡ 2
-  pub refused-between-rows :
-      tableOf (ramp ∷ steep ∷ ramp ∷ []) (replicate 45 (pos 7)) ≡ rows ramp ++ (rows ramp ++ replicate 3 (pos 7))
-  -- after RAMP the table of 45 numbers has 24 left: four rows want 28, and three still fit
-  pub shorter-fits : repliesOf (ramp ∷ close ∷ ramp ∷ []) 45 ≡ 0 ∷ 3 ∷ 11 ∷ 0 ∷ 0 ∷ 3 ∷ []
-  pub shorter-fits-rows :
-      tableOf (ramp ∷ close ∷ ramp ∷ []) (replicate 45 (pos 7)) ≡ rows ramp ++ (rows ramp ++ replicate 3 (pos 7))
+  -- two RAMPs and a card that is refused: each RAMP has its three rows, and the card after them nothing; the call counts three cards, of
+  -- which two are accepted
+  pub refused-last : repliesOf (ramp ∷ ramp ∷ steep ∷ []) 45 ≡ 0 ∷ 3 ∷ 0 ∷ 3 ∷ 5 ∷ 0 ∷ []
+  pub refused-counted : dayReply (length (ramp ∷ ramp ∷ steep ∷ [])) 6 ≡ reply 0 3
+  pub refused-accepted : acceptedIn (repliesOf (ramp ∷ ramp ∷ steep ∷ []) 45) 3 ≡ 2
+  -- after RAMP a table of 45 numbers has 24 left: four rows want 28, and three still fit; a refused card uses nothing, and the last card's
+  -- three rows are too many for what is left; two numbers of the reply list are kept
+  pub shorter-fits : dayReplies mixed marks (replicate 12 9) ≡ 0 ∷ 3 ∷ 11 ∷ 0 ∷ 5 ∷ 0 ∷ 0 ∷ 3 ∷ 11 ∷ 0 ∷ 9 ∷ 9 ∷ []
+  pub shorter-fits-rows : dayTable mixed marks (replicate 12 9) ≡ rows ramp ++ (rows ramp ++ replicate 3 (pos 7))
+  -- a reply list one number short
+  pub short-replies : dayReplies mixed marks (replicate 9 9) ≡ replicate 9 9
+  pub short-table : dayTable mixed marks (replicate 9 9) ≡ marks
+  -- 301 rows want 2107 numbers, and every day has enough with 134848
+  pub longest-fits : repliesOf (longest ∷ []) (enoughFor 1) ≡ 0 ∷ 301 ∷ []
+  pub longest-short : repliesOf (longest ∷ []) 2106 ≡ 11 ∷ 0 ∷ []
+  pub enough : (enoughFor 1 ≡ 2107) × (enoughFor mostCards ≡ 134848)

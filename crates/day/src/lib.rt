@@ -42,7 +42,7 @@ fn day_reply(count: usize, room: usize) -> Reply
     }
 }
 
-// One card: it is given the table from `used` on, and its reply goes to its two places. How many numbers of the table are used then.
+// One card: it is given the table from `used` on, and its reply goes to its two places. Gives how many numbers of the table are used then.
 fn fill_card(card: Card, i: usize, used: usize, table: &mut [i32], replies: &mut [u32]) -> usize
     requires { ⌜ Fits i used (now table) (now replies) ⌝ }
     ensures { λ r. ⌜ Step card i used (now (table .entry)) (now (replies .entry)) r (now (table .exit)) (now (replies .exit)) ⌝ }

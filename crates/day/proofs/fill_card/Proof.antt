@@ -1,7 +1,6 @@
 -- `day::fill_card` meets its contract.
 -- Assumes nothing.
 use borrow.Author.Needs.{needs}
-use Prim.Native.Nat.{_-_}
 use denote.Ref.{now}
 use Rattle.day.proofs.CardStep.{put-together}
 use Rattle.day.proofs.fill_card.Statement.{statement}

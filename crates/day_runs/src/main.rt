@@ -1,5 +1,6 @@
 // Runs the first cards of a book through both calls for a day's cards, that over card structs and that over plain numbers, with tables and reply
-// lists of some lengths. Prints the reply and the reply list of the first, and at how many places the second leaves another number.
+// lists of some lengths. Prints the reply and the reply list of the first, and in how many numbers of its reply, table and reply list the
+// second differs.
 use book::LEAST_LIST;
 use book::MOST_BYTES;
 use card::Card;
@@ -166,6 +167,14 @@ fn replies_differ(one: &[u32; REPLIES_ROOM], other: &[u32; REPLIES_ROOM]) -> usi
     differ
 }
 
+// In how many of their two numbers two replies differ.
+fn reply_differs(one: Reply, other: Reply) -> usize
+    ensures { λ r. ⌜ r ≤ 2 ⌝ }
+{
+    let number = one_more_if(0, one.number != other.number);
+    one_more_if(number, one.count != other.count)
+}
+
 // The call over structs, with the first numbers of the table and of the reply list.
 fn by_structs(
     cards: [Card; CARDS_ROOM],
@@ -211,15 +220,16 @@ fn run_day(cards: [Card; CARDS_ROOM], bodies: &[[u32; 8]; CARDS_ROOM], lent: Len
     requires { ⌜ lent .second ≤ 63 ⌝ }
     requires { ⌜ lent .replies ≤ 132 ⌝ }
 {
-    let count = lent.cards;
+    let shown = 2 * lent.cards + 2;
     let mut table = marked_table();
     let mut replies = marked_replies();
     let reply = by_structs(cards, lent, &mut table, &mut replies);
     let mut second = marked_table();
     let mut answers = marked_replies();
-    by_numbers(bodies, lent, &mut second, &mut answers);
-    let differ = tables_differ(&table, &second) + replies_differ(&replies, &answers);
-    print_replies(reply, &replies, 2 * count + 2);
+    let answer = by_numbers(bodies, lent, &mut second, &mut answers);
+    let listed = tables_differ(&table, &second) + replies_differ(&replies, &answers);
+    let differ = listed + reply_differs(reply, answer);
+    print_replies(reply, &replies, shown);
     io::write_all(1, b"differ: ");
     io::print_decimal(1, differ as u64);
     io::write_all(1, b"\n");

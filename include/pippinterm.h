@@ -163,9 +163,10 @@ uint32_t pippinterm_fill_table(const uint32_t card[PIPPINTERM_CARD_NUMBERS],
  * Else gives 29 for more than 64 cards, then 30 for a shorter reply list: *count
  * is then 0, and the table and the reply list are as they were.
  * cards_length is in cards of eight numbers, table_length and replies_length are
- * in numbers; each may be any, 0 too. Cards that are not const are handed over as
- * they are; only C before C23 with -pedantic wants the cast
- * (const uint32_t (*)[PIPPINTERM_CARD_NUMBERS])cards.
+ * in numbers; each may be any, 0 too. A book's list has ten numbers a curve, so
+ * copy the eight of each card out of it. Cards that are not const are handed over
+ * as they are; C before C23 may want (const uint32_t (*)[8])cards, as gcc does
+ * with -pedantic.
  */
 uint32_t pippinterm_fill_day(const uint32_t (*cards)[PIPPINTERM_CARD_NUMBERS],
                              size_t cards_length,

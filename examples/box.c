@@ -85,7 +85,7 @@ static int print_day(uint32_t curves)
         return 2;
     }
     for (i = 0; i < count; i++) {
-        print_curve(curve_at(i), reply[PIPPINTERM_REPLY_NUMBER],
+        print_curve(curve_at(i), reply[PIPPINTERM_REPLY_REASON],
                     reply[PIPPINTERM_REPLY_COUNT], part);
         part += PIPPINTERM_ROW_NUMBERS * reply[PIPPINTERM_REPLY_COUNT];
         reply += PIPPINTERM_REPLY_NUMBERS;

@@ -65,7 +65,7 @@ extern "C" {
 #define PIPPINTERM_CURVE_NUMBERS 10
 
 /* The numbers of a card in the reply list of a day, in their order. */
-#define PIPPINTERM_REPLY_NUMBER 0     /* 0, or the reason that refuses the card */
+#define PIPPINTERM_REPLY_REASON 0     /* 0, or the reason that refuses the card */
 #define PIPPINTERM_REPLY_COUNT 1      /* its count of rows, 0 where it is refused */
 #define PIPPINTERM_REPLY_NUMBERS 2
 

@@ -157,7 +157,7 @@ static int compare_reply(const long *numbers)
         return 0;
     }
     reply = replies_room + GUARD + PIPPINTERM_REPLY_NUMBERS * numbers[0];
-    compare(numbers[1], (long)reply[PIPPINTERM_REPLY_NUMBER]);
+    compare(numbers[1], (long)reply[PIPPINTERM_REPLY_REASON]);
     compare(numbers[2], (long)reply[PIPPINTERM_REPLY_COUNT]);
     return 1;
 }

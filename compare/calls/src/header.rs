@@ -55,7 +55,7 @@ const OTHERS: [(&str, u32); 33] = [
     ("curve name size", 1),
     ("curve card", 2),
     ("curve numbers", 10),
-    ("reply number", 0),
+    ("reply reason", 0),
     ("reply count", 1),
     ("reply numbers", 2),
     ("most rows", 300_000 / 1000 + 1),

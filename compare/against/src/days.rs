@@ -17,7 +17,7 @@ pub const LONGEST_DAY: usize = MOST_CARDS * LONGEST_CARD;
 /// The numbers with which a card is refused for its own sake.
 const OWN_REASONS: [u32; 9] = [1, 2, 3, 4, 5, 6, 8, 9, 10];
 /// One full list in so many takes the longest table.
-const LONGEST_ONE_IN: usize = 50;
+const LONGEST_ONE_IN: usize = 20;
 /// One list of too many cards in so many has more than 65,536.
 const LONG_ONE_IN: usize = 50;
 

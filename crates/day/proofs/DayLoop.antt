@@ -201,7 +201,6 @@ module _ (cs : List Card) (ts₀ : List ℤ) (rs₀ : List ℕ) where
           sym (take-append-drop (replyWidth * n) rs) ∙ (rw (none, done) at (t .replies-so-far)) ∙ ap repliesWith counted ∙ replies-is
 
       last-climbs : r .number ≡ 0 → ClimbingDay cs ts rs
-      unfolding dayReply replyBy
       last-climbs z =
           rw (last-table, last-replies) (climbing-day cs ts₀ rs₀ (sym (ap (λ (x : Reply). x .number) e) ∙ z))
 

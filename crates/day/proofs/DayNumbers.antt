@@ -51,6 +51,5 @@ numbers-rule count room =
     }
 
 -- what is asked of a call that gives 0
-pub room-for-replies : (count room : ℕ) → dayNumber count room ≡ 0 → replyWidth * count ≤ room
-unfolding dayReply replyBy
+pub room-for-replies : (count room : ℕ) → dayReply count room .number ≡ 0 → replyWidth * count ≤ room
 room-for-replies count room e = numbers-rule count room .right .0 e .1

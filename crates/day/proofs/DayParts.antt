@@ -11,9 +11,10 @@ use lib.ListN.{length, getD, take, drop, length-append, length-drop}
 use lib.Seq.{take-at, drop-at, drop-drop, drop-append-add, length-take-le}
 use borrow.Author.Tests.{eqb-true, eqb-false, ne-eqb}
 use Rattle.card.specs.declared.Card.{Card}
+use Rattle.card.specs.Table.{replyBy}
 use Rattle.runoff.specs.Rows.{rowWidth}
 use Rattle.runoff.specs.Table.{replyTo, tableAfter}
-use Rattle.day.specs.Day.{replyWidth, dayNumber, usedBy, tableOf, repliesOf, dayTable, dayReplies}
+use Rattle.day.specs.Day.{replyWidth, dayNumber, dayReply, usedBy, tableOf, repliesOf, dayTable, dayReplies}
 use Rattle.day.specs.Parts.{numberIn, countIn, startIn, restIn, PartOf, DayLeft, DayTheorem, RefusedTheorem, ClimbingDay}
 use Rattle.day.proofs.SingleCall.{uses-within, same-long, climbs-after, climbs-in-part, refused-counts, uses-few, own-only}
 use Rattle.day.proofs.DayNumbers.{room-for-replies}
@@ -155,17 +156,21 @@ later-begins replies i (suc j) h = go (eqb i j) refl (later-begins replies i j)
     go true e before = rw (eqb-true i j e) (omega arith)
     go false e before = omega (arith, before (omega (arith, h, eqb-false i j e)))
 
-module _ (cards : List Card) (old : List ℤ) (listed : List ℕ) (right : dayNumber (length cards) (length listed) ≡ 0) where
+module _ (cards : List Card) (old : List ℤ) (listed : List ℕ) (right : dayReply (length cards) (length listed) .number ≡ 0) where
   abbrev kept : List ℕ
   kept = drop (replyWidth * length cards) listed
 
+  passes : dayNumber (length cards) (length listed) ≡ 0
+  unfolding dayReply replyBy
+  passes = right
+
   table-is : dayTable cards old listed ≡ tableOf cards old
   unfolding dayTable
-  table-is = rw right
+  table-is = rw passes
 
   replies-is : dayReplies cards old listed ≡ repliesOf cards (length old) ++ kept
   unfolding dayReplies
-  replies-is = rw right
+  replies-is = rw passes
 
   replies-long : length (repliesOf cards (length old) ++ kept) ≡ length listed
   replies-long =
@@ -187,12 +192,12 @@ pub day-left : DayTheorem
 day-left cards old listed right = rw (table-is cards old listed right, replies-is cards old listed right) (left-so cards old listed right)
 
 pub refused-left : RefusedTheorem
-unfolding dayTable dayReplies
+unfolding dayReply replyBy dayTable dayReplies
 refused-left cards table replies ne =
     let refused = ne-eqb (dayNumber (length cards) (length replies)) 0 ne in
     (rw refused, rw refused)
 
 pub climbing-day :
-    (cards : List Card) (old : List ℤ) (listed : List ℕ) → dayNumber (length cards) (length listed) ≡ 0 →
+    (cards : List Card) (old : List ℤ) (listed : List ℕ) → dayReply (length cards) (length listed) .number ≡ 0 →
     ClimbingDay cards (dayTable cards old listed) (dayReplies cards old listed)
 climbing-day cards old listed right i none h = day-left cards old listed right .parts i none h .climbs

@@ -13,7 +13,7 @@ use Rattle.runoff.specs.Rows.{rowWidth}
 use Rattle.runoff.specs.Refusal.{refusal}
 use Rattle.runoff.specs.Table.{replyTo, tableAfter}
 use Rattle.runoff.specs.Climbing.{ClimbingTable}
-use Rattle.day.specs.Day.{replyWidth, dayNumber, dayTable, dayReplies}
+use Rattle.day.specs.Day.{replyWidth, dayReply, dayTable, dayReplies}
 
 -- the two numbers of card i in a reply list, cards counted from 0
 abbrev pub numberIn : List ℕ → ℕ → ℕ
@@ -76,13 +76,13 @@ pub record DayLeft (cards : List Card) (old : List ℤ) (listed : List ℕ) (tab
 -- THEOREM (proofs/DayParts.antt): so the call leaves every list of cards, table and reply list that it does not refuse
 abbrev pub DayTheorem : Type 0
 DayTheorem =
-    (cards : List Card) (table : List ℤ) (replies : List ℕ) → dayNumber (length cards) (length replies) ≡ 0 →
+    (cards : List Card) (table : List ℤ) (replies : List ℕ) → dayReply (length cards) (length replies) .number ≡ 0 →
     DayLeft cards table replies (dayTable cards table replies) (dayReplies cards table replies)
 
 -- THEOREM (proofs/DayParts.antt): "leaving table and reply list untouched": so a call leaves them that it refuses
 abbrev pub RefusedTheorem : Type 0
 RefusedTheorem =
-    (cards : List Card) (table : List ℤ) (replies : List ℕ) → ¬ (dayNumber (length cards) (length replies) ≡ 0) →
+    (cards : List Card) (table : List ℤ) (replies : List ℕ) → ¬ (dayReply (length cards) (length replies) .number ≡ 0) →
     (dayTable cards table replies ≡ table) × (dayReplies cards table replies ≡ replies)
 
 -- demand 3 of every accepted card's part, as the call's contract has it

@@ -1,11 +1,13 @@
--- Document 01, "The card": the least length of the clothoid, in metres, by the radius in metres (002, table 2).
+-- Document 01, "The card": the least length of the clothoid, in metres, by the radius in metres (002, table 2); document 02, Slip 3: the search for it.
 -- Assumes nothing.
 use mathlib.Core.Path.{_≡_}
 use mathlib.Core.Bool.{cond}
 use mathlib.Core.List.{List, [], _∷_}
-use Prim.Native.Nat.{ℕ, max, _≤_}
-use lib.Dec.{leb, ltb, eqb}
+use Prim.Native.Nat.{ℕ, _+_, max, _≤_, _<_}
+use lib.Dec.{leb, eqb}
+use Rattle.card.specs.declared.LeastLength.{LeastLength}
 use Rattle.card.specs.declared.tables.Clothoid.{Clothoid}
+use Rattle.card.specs.Words.{_below_}
 
 -- a listed radius and its least length
 abbrev pub listed : ℕ → ℕ → Clothoid
@@ -32,19 +34,51 @@ lengthAbove (e ∷ es) r = cond (leb r (e .radius)) (e .length) (lengthAbove es 
 unfoldable pub leastLength : ℕ → ℕ
 leastLength r = max (lengthBelow 0 clothoids r) (lengthAbove clothoids r)
 
--- how it is searched for: at a listed radius its length, below one the longer of its length and the one before, past the last the last's
-abbrev pub search : ℕ → List Clothoid → ℕ → ℕ
-search before [] r = before
-search before (e ∷ es) r =
-    cond (eqb r (e .radius)) (e .length)
-    (cond (ltb r (e .radius)) (max before (e .length))
-    (search (e .length) es r))
+-- what the search gives: a length and, beside it, how many listed radii it looked at (the struct LeastLength of src/lib.rt)
+abbrev pub found : ℕ → ℕ → LeastLength
+found l n = record { length = l; looked = n }
 
--- THEOREM (proofs/Clothoids.antt): the search finds it, for every radius
+-- it looks at one listed radius after the other, and leaves at the first that is not below r; where there is none, it has looked at all
+abbrev pub lookedAlong : List Clothoid → ℕ → ℕ
+lookedAlong [] r = 0
+lookedAlong (e ∷ es) r = cond (e .radius below r) (lookedAlong es r) 0 + 1
+
+-- for a radius r: its least length, and how many of the listed radii
+abbrev pub leastFound : ℕ → LeastLength
+leastFound r = found (leastLength r) (lookedAlong clothoids r)
+
+-- how many radii of a table lie below r, wherever in it they stand
+abbrev pub radiiBelow : List Clothoid → ℕ → ℕ
+radiiBelow [] r = 0
+radiiBelow (e ∷ es) r = cond (e .radius below r) (radiiBelow es r + 1) (radiiBelow es r)
+
+-- THEOREM (proofs/Clothoids.antt): "for R up to 2000, one more than lie below R"; above, where the paper leaves it free, all twenty
+pub record LookedTheorem : Type 0 where
+  pub up-to-2000 : (r : ℕ) → r ≤ 2000 → leastFound r .looked ≡ radiiBelow clothoids r + 1
+  pub above-2000 : (r : ℕ) → 2000 < r → leastFound r .looked ≡ 20
+
+-- how the length is found on the way, with the length before and the count so far: where the search leaves, at a listed radius its length, below one the longer of its length and the one before
+abbrev pub search : ℕ → ℕ → List Clothoid → ℕ → LeastLength
+search before looked [] r = found before looked
+search before looked (e ∷ es) r =
+    cond (e .radius below r) (search (e .length) (looked + 1) es r)
+    (found (cond (eqb r (e .radius)) (e .length) (max before (e .length))) (looked + 1))
+
+-- THEOREM (proofs/Clothoids.antt): the search finds both, for every radius
 abbrev pub SearchFinds : Type 0
-SearchFinds = (r : ℕ) → search 0 clothoids r ≡ leastLength r
+SearchFinds = (r : ℕ) → search 0 0 clothoids r ≡ leastFound r
 
 -- THEOREM (proofs/Clothoids.antt): up to the first listed radius it is the first length, 30 m, from the last on the last one, 100 m
 pub record BeyondListed : Type 0 where
   pub near : (r : ℕ) → r ≤ 30 → leastLength r ≡ 30
   pub far : (r : ℕ) → 2000 ≤ r → leastLength r ≡ 100
+
+-- THEOREM (proofs/Clothoids.antt): below the first listed radius, at it and past it, between two, and about the last. The figures are read off the paper's table by hand
+pub record LookedReadings : Type 0 where
+  pub nought : leastFound 0 ≡ found 30 1
+  pub first : leastFound 30 ≡ found 30 1
+  pub past-first : leastFound 31 ≡ found 30 2
+  pub between : leastFound 225 ≡ found 80 12
+  pub past-1000 : leastFound 1001 ≡ found 120 20
+  pub last : leastFound 2000 ≡ found 100 20
+  pub past-last : leastFound 2001 ≡ found 100 20

@@ -8,10 +8,12 @@ use crate::conditions::is_too_wide;
 use crate::tables::CLOTHOIDS;
 use crate::tables::PROFILES;
 use crate::tables::longer;
+use crate::tables::shorter;
 ghost use mathlib.Core.Path.{_≡_};
+ghost use Prim.Native.Nat.{_<_};
 ghost use lib.ListN.{drop};
 ghost use Rattle.card.specs.Profile.{profileAt, addedSlope};
-ghost use Rattle.card.specs.Clothoid.{leastLength};
+ghost use Rattle.card.specs.Clothoid.{leastFound};
 ghost use Rattle.card.specs.Reasons.{first, testsBy, refusalBefore, refusalAfter, refusalRoom};
 ghost use Rattle.card.specs.Rows.{rowsTo, stationTo};
 
@@ -37,6 +39,12 @@ pub struct Profile {
     pub least_radius: u32,
     pub added_level: u32,
     pub added_mountain: u32,
+}
+
+// What the search for the least length of a clothoid gives: the length in metres, and how many listed radii it looked at.
+pub struct LeastLength {
+    pub length: u32,
+    pub looked: u32,
 }
 
 // What a card and a lent table are answered: 0 and the count of rows, or the number of the reason and 0.
@@ -76,26 +84,37 @@ pub fn added_slope(p: Profile, terrain: u32) -> u32
     }
 }
 
-// The least length of a clothoid, in metres, by the radius in metres.
-pub fn least_length(radius: u32) -> u32
-    ensures { λ l. ⌜ l ≡ leastLength radius ⌝ }
+// The least length of a clothoid, by the radius in metres: the search leaves at the first listed radius that is not below it.
+// A radius above 2000, the last listed one, is sought as 2000, so that all twenty are looked at.
+pub fn least_length(radius: u32) -> LeastLength
+    ensures { λ l. ⌜ l ≡ leastFound radius ⌝ }
+    ensures above { λ l. ⌜ (2000 < radius → l .looked ≡ 20) ⌝ }
 {
+    let table = CLOTHOIDS;
+    let sought = shorter(radius, 2000);
     let mut before: u32 = 0;
-    let mut i: usize = 0;
-    while i < 20 {
-        let e = CLOTHOIDS[i];
-        let r = e.radius;
-        let l = e.length;
-        if radius == r {
-            return l;
+    let mut i: u32 = 0;
+    loop {
+        let entry = table[i as usize];
+        if sought <= entry.radius {
+            break;
         }
-        if radius < r {
-            return longer(before, l);
-        }
-        before = l;
+        before = entry.length;
         i += 1;
     }
-    before
+    let entry = table[i as usize];
+    let looked = i + 1;
+    if sought == entry.radius {
+        return LeastLength {
+            length: entry.length,
+            looked: looked,
+        };
+    }
+    let length = longer(before, entry.length);
+    LeastLength {
+        length: length,
+        looked: looked,
+    }
 }
 
 // 0, or the number of the first of the reasons that come before a method's own, 1 to 6.
@@ -127,7 +146,8 @@ fn check_curve(p: Profile, card: Card) -> u32
     if is_outside(radius, least_radius, 2000) {
         return 3;
     }
-    let least = least_length(radius);
+    let found = least_length(radius);
+    let least = found.length;
     let shortest = 1000 * least;
     if is_outside(clothoid, shortest, 300000) {
         return 4;

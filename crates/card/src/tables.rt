@@ -1,7 +1,7 @@
 // The constant tables of document 01.
 use crate::Profile;
 ghost use mathlib.Core.Path.{_≡_};
-ghost use Prim.Native.Nat.{max};
+ghost use Prim.Native.Nat.{max, min};
 
 // A listed radius and its least clothoid length, in metres.
 pub(crate) struct Clothoid {
@@ -159,4 +159,10 @@ pub(crate) fn longer(a: u32, b: u32) -> u32
     ensures { λ r. ⌜ r ≡ max a b ⌝ }
 {
     if a < b { b } else { a }
+}
+
+pub(crate) fn shorter(a: u32, b: u32) -> u32
+    ensures { λ r. ⌜ r ≡ min a b ⌝ }
+{
+    if a < b { a } else { b }
 }

@@ -7,7 +7,7 @@ use native.Mathlib.Omega.{arith}
 use lib.ListN.{drop}
 use borrow.Author.Needs.{needs}
 use Rattle.card.specs.Reasons.{Test, first, testsBy}
-use Rattle.card.proofs.Clothoids.{at-most-120}
+use Rattle.card.proofs.Clothoids.{at-most-120, found-length}
 use Rattle.card.proofs.Steps.{Says, at-start, passed, refused}
 use Rattle.card.proofs.check_curve.Statement.{statement}
 use Rattle.card.proofs.check_curve.Tie as tie
@@ -35,7 +35,7 @@ past3 : (c : tie.Else1) → Past 3 (start3 c)
 past3 c = passed (past2 (c .before .before)) (c .before .is-outside .ensures) (c .if1 .left)
 
 past4 : (c : tie.Else2) → Past 4 (start4 c)
-past4 c = passed (past3 (c .before .before .before)) (rw (c .before .before .least-length .ensures) at (c .before .is-outside2 .ensures)) (c .if2 .left)
+past4 c = passed (past3 (c .before .before .before)) (rw (found-length _ _ (c .before .before .least-length .ensures .0)) at (c .before .is-outside2 .ensures)) (c .if2 .left)
 
 past5 : (c : tie.Else3) → Past 5 (start5 c)
 past5 c = passed (past4 (c .before .before)) (c .before .is-outside3 .ensures) (c .if3 .left)
@@ -51,14 +51,14 @@ least-length-requires c κs = search needs
 
 mul-shortest : tie.Need-mul-shortest
 mul-shortest c =
-    let small : c .least-length .result ≤ 120 = rw (c .least-length .ensures) (at-most-120 _) in
+    let small : c .least-length .result .length ≤ 120 = rw (found-length _ _ (c .least-length .ensures .0)) (at-most-120 _) in
     omega arith
 
 is-outside-requires-2 : tie.Need-is-outside-requires-2
 is-outside-requires-2 c κs = search needs
 
 returns-2 : tie.Need-returns-2
-returns-2 c = refused (past3 (c .before .before .before)) (rw (c .before .before .least-length .ensures) at (c .before .is-outside2 .ensures)) (c .if2 .taken)
+returns-2 c = refused (past3 (c .before .before .before)) (rw (found-length _ _ (c .before .before .least-length .ensures .0)) at (c .before .is-outside2 .ensures)) (c .if2 .taken)
 
 is-outside-requires-3 : tie.Need-is-outside-requires-3
 is-outside-requires-3 c κs = search needs

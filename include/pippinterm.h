@@ -1,6 +1,6 @@
 /*
  * Pippinterm: the table of heights of a curve card, a day's cards in one table,
- * and the book of cards.
+ * the book of cards, and the least length of a clothoid.
  *
  * Link target/staticlib/libcapi.a, which `rt staticlib capi` proves and builds
  * for x86-64 and the System V calling convention, as gcc has it there, and for
@@ -11,13 +11,13 @@
  * these two take, and no start-up. It keeps nothing between two calls, so that
  * calls from several threads meet only in what they are lent.
  *
- * No call asks for a test beforehand: every card, every text and every length
- * has its reply. Only the C side can see to this much:
+ * No call asks for a test beforehand: every card, every radius, every text and
+ * every length has its reply. Only the C side can see to this much:
  *   - a pointer leads to as many numbers or cards as are said to be there, and
  *     they lie as C aligns them. A table, a text, a list, a day's cards or its reply
- *     list may be NULL where the length given with it is 0; card, count and
- *     line are never NULL, since a card has its eight numbers in every call, and
- *     count and line are always written;
+ *     list may be NULL where the length given with it is 0; card, count, line and
+ *     looked are never NULL, since a card has its eight numbers in every call, and
+ *     count, line and looked are always written;
  *   - what is lent for writing in one call shares no memory with anything else
  *     that is lent in it, and nothing else writes to what is lent while the
  *     call runs.
@@ -132,6 +132,19 @@ extern "C" {
  * of the first one that is, in rising order. Changes nothing.
  */
 uint32_t pippinterm_check_card(const uint32_t card[PIPPINTERM_CARD_NUMBERS]);
+
+/*
+ * The least length of a clothoid by the radius, both in metres: 1000 times as
+ * many mm are the least that reason 4 lets pass.
+ * Gives the length that the table above has for the radius, between two of its
+ * radii the longer of their two lengths; below 30 it is 30, as at 30, and above
+ * 2000 it is 100, as at 2000, though no card with such a radius is accepted.
+ * *looked is how many radii of that table the search looked at, from the least
+ * on: it leaves at the first that is not below the radius, so that for a radius
+ * up to 2000 it is one more than lie below. Above 2000 it is 20, all of them.
+ * Refuses nothing.
+ */
+uint32_t pippinterm_least_length(uint32_t radius, uint32_t *looked);
 
 /*
  * Fills a table with the rows of a card.

@@ -1,12 +1,15 @@
 // The calls for firmware in C: the library's own, with the card as its eight numbers and the reply as a number and counts.
 use book::read_book;
+use card::least_length;
 use card_list::card_of_numbers;
 use day::fill_day_of_numbers;
 use runoff::check_card;
 use runoff::fill_table;
 ghost use mathlib.Core.Path.{_≡_};
+ghost use Prim.Native.Nat.{_<_};
 ghost use denote.Ref.{now};
 ghost use lib.ListN.{length};
+ghost use Rattle.card.specs.Clothoid.{leastLength, leastFound};
 ghost use Rattle.runoff.specs.Refusal.{refusal};
 ghost use Rattle.runoff.specs.Table.{replyTo, tableAfter};
 ghost use Rattle.runoff.specs.Climbing.{ClimbingTable};
@@ -14,6 +17,19 @@ ghost use Rattle.card_list.specs.List.{cardOf, cardsOf};
 ghost use Rattle.day.specs.Day.{dayReply, dayTable, dayReplies};
 ghost use Rattle.day.specs.Parts.{ClimbingDay};
 ghost use Rattle.book.specs.Book.{replyToBook, listAfter};
+
+// The least length of a clothoid in metres, by the radius in metres; `looked` has how many listed radii were looked at, above 2000 all twenty.
+#[no_mangle]
+pub extern "C" fn pippinterm_least_length(radius: u32, looked: &mut u32) -> u32
+    ensures { λ l. ⌜ l ≡ leastLength radius ⌝ }
+    ensures { λ _. ⌜ now (looked .exit) ≡ leastFound radius .looked ⌝ }
+    ensures { λ _. ⌜ (2000 < radius → now (looked .exit) ≡ 20) ⌝ }
+{
+    let found = least_length(radius);
+    let radii = found.looked;
+    *looked = radii;
+    found.length
+}
 
 // 0 for an accepted card, else the number of the first of its own reasons: 1 to 6, 8, 9 or 10.
 #[no_mangle]

@@ -1,6 +1,6 @@
-//! Compares the compiled library with the paper's rules, card by card, book by book and day by day.
+//! Compares the compiled library with the paper's rules, card by card, book by book, day by day and radius by radius.
 //!
-//! `against [--cards N] [--books N] [--days N] [--seed S]`: the same words give the same output.
+//! `against [--cards N] [--books N] [--days N] [--seed S]`: the same words give the same output; the radii are always the same.
 //! Ends well only without differences, with every reply met, no other one given, and every altered answer found.
 #![forbid(unsafe_code)]
 
@@ -12,12 +12,16 @@ mod day_case;
 mod day_tally;
 mod days;
 mod lent;
+mod radii;
+mod radius_case;
 mod seeded;
 mod tally;
 mod words;
 mod work;
 #[cfg(test)]
 mod wrong_days;
+#[cfg(test)]
+mod wrong_radii;
 
 use day_tally::{DayTally, DAY_REPLIES, PLACES, SORTS as DAY_SORTS};
 use std::env;
@@ -81,6 +85,7 @@ fn lacks(asked: Asked, tally: &Tally) -> Vec<String> {
     lacks.extend(unseen("card", &tally.altered_cards, whole));
     lacks.extend(unseen("book", &tally.altered_books, whole));
     lacks.extend(unseen("day", &tally.days.altered, whole));
+    lacks.extend(unseen("radius", &tally.altered_radii, true));
     lacks
 }
 
@@ -135,11 +140,9 @@ fn main() -> ExitCode {
     let Asked {
         cards, books, days, ..
     } = asked;
-    println!(
-        "{cards} cards, {books} books, {days} days, {} differences",
-        tally.differing
-    );
-    if tally.differing == 0 && lacks.is_empty() {
+    let (radii, differing) = (tally.radii_compared(), tally.differing);
+    println!("{cards} cards, {books} books, {days} days, {radii} radii, {differing} differences");
+    if differing == 0 && lacks.is_empty() {
         ExitCode::SUCCESS
     } else {
         ExitCode::FAILURE

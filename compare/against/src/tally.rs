@@ -5,6 +5,7 @@ use crate::books;
 use crate::card_case::{self, CardAnswer, CardCase, CLASSES};
 use crate::cards;
 use crate::day_tally::DayTally;
+use crate::radius_case::{self, RadiusCase};
 use paper::card::profile;
 use paper::section::{Course, Runoff};
 use paper::Card;
@@ -21,6 +22,19 @@ pub const BOOK_REPLIES: [u32; 9] = [0, 21, 22, 23, 24, 25, 26, 27, 28];
 
 /// Sorts of runoffs for which rows come; a runoff can be of more than one.
 pub const SORTS: [&str; 4] = ["even", "two-stage", "kept at m", "W above c"];
+
+/// Where a radius lies, and the listed lengths in metres.
+pub const RANGES: [&str; 3] = ["below 30", "30 to 2000", "above 2000"];
+pub const LENGTHS: [u32; 13] = [30, 35, 40, 45, 50, 55, 60, 70, 80, 90, 100, 110, 120];
+
+/// The place of a radius among `RANGES`.
+fn range(radius: u32) -> usize {
+    match radius {
+        0..=29 => 0,
+        30..=2000 => 1,
+        _ => 2,
+    }
+}
 
 /// Of which of the sorts an accepted card's runoff is.
 fn sorts(card: &Card) -> [bool; SORTS.len()] {
@@ -55,8 +69,11 @@ pub struct Tally {
     pub table_numbers: u64,
     pub curves: u64,
     pub list_numbers: u64,
+    pub radii: [[u64; LENGTHS.len()]; RANGES.len()],
+    pub radius_numbers: u64,
     pub altered_cards: [Altered; card_case::ALTERATIONS.len()],
     pub altered_books: [Altered; book_case::ALTERATIONS.len()],
+    pub altered_radii: [Altered; radius_case::ALTERATIONS.len()],
     pub days: DayTally,
     pub differing: u64,
     pub differences: Vec<Difference>,
@@ -103,6 +120,12 @@ impl Tally {
         self.list_numbers += case.due.numbers_compared();
     }
 
+    pub fn count_radius(&mut self, case: &RadiusCase) {
+        let met = LENGTHS.iter().position(|&n| n == case.due.length);
+        self.radii[range(case.radius)][met.expect("a listed length")] += 1;
+        self.radius_numbers += case.due.numbers_compared();
+    }
+
     /// Keeps the words of the first differences only, and the count of all.
     pub fn differs(&mut self, piece: u64, words: impl FnOnce() -> String) {
         self.differing += 1;
@@ -123,14 +146,19 @@ impl Tally {
         for profile in 0..5 {
             add_numbers(&mut self.sorts[profile], &other.sorts[profile]);
         }
+        for range in 0..RANGES.len() {
+            add_numbers(&mut self.radii[range], &other.radii[range]);
+        }
         add_altered(&mut self.altered_cards, &other.altered_cards);
         add_altered(&mut self.altered_books, &other.altered_books);
+        add_altered(&mut self.altered_radii, &other.altered_radii);
         self.days.add(&other.days);
         self.unlisted += other.unlisted;
         self.rows += other.rows;
         self.table_numbers += other.table_numbers;
         self.curves += other.curves;
         self.list_numbers += other.list_numbers;
+        self.radius_numbers += other.radius_numbers;
         self.differing += other.differing;
         self.differences.extend(other.differences);
         self.differences.sort_by_key(|difference| difference.piece);
@@ -147,6 +175,10 @@ impl Tally {
 
     pub fn book_reply(&self, reply: usize) -> u64 {
         self.books.iter().map(|kind| kind[reply]).sum()
+    }
+
+    pub fn radii_compared(&self) -> u64 {
+        self.radii.as_flattened().iter().sum()
     }
 
     /// How many runoffs of a sort were met, of all profiles.

@@ -8,7 +8,8 @@ use crate::day_case::{self, DayAnswer, DayCase};
 use crate::day_tally::{DAY_REPLIES, PLACES, SORTS as DAY_SORTS};
 use crate::days::{self, MOST_CARDS};
 use crate::lent::Unlike;
-use crate::tally::{Altered, Tally, BOOK_REPLIES, CARD_REPLIES, SORTS};
+use crate::radius_case::{self, RadiusAnswer, RadiusCase};
+use crate::tally::{Altered, Tally, BOOK_REPLIES, CARD_REPLIES, LENGTHS, RANGES, SORTS};
 use std::fmt::Arguments;
 
 /// Unlike places named in one difference.
@@ -37,6 +38,8 @@ pub fn print_tally(tally: &Tally) {
     print_books(tally);
     println!();
     print_days(tally);
+    println!();
+    print_radii(tally);
     println!();
     print_altered(tally);
 }
@@ -106,6 +109,19 @@ fn print_days(tally: &Tally) {
     println!("{rows} rows compared; {numbers} numbers, tails and guards too");
 }
 
+fn print_radii(tally: &Tally) {
+    heading(
+        "Radii by least length",
+        &LENGTHS.map(|length| length.to_string()),
+    );
+    for (name, counts) in RANGES.iter().zip(&tally.radii) {
+        line(name, counts);
+    }
+    line("all", &sum(&tally.radii));
+    let (radii, numbers) = (tally.radii_compared(), tally.radius_numbers);
+    println!("{radii} radii compared; {numbers} numbers, guards too");
+}
+
 fn print_altered(tally: &Tally) {
     heading(
         "Altered on purpose",
@@ -120,8 +136,12 @@ fn print_altered(tally: &Tally) {
     for ((name, _), altered) in day_case::ALTERATIONS.iter().zip(&tally.days.altered) {
         line(&format!("day: {name}"), &[altered.made, altered.found]);
     }
+    for ((name, _), altered) in radius_case::ALTERATIONS.iter().zip(&tally.altered_radii) {
+        line(&format!("radius: {name}"), &[altered.made, altered.found]);
+    }
     let (cards, books) = (&tally.altered_cards[..], &tally.altered_books[..]);
-    let all = total(&[cards, books, &tally.days.altered].concat());
+    let (days, radii) = (&tally.days.altered[..], &tally.altered_radii[..]);
+    let all = total(&[cards, books, days, radii].concat());
     println!("{} altered answers, {} found", all.made, all.found);
 }
 
@@ -195,6 +215,18 @@ pub fn day_difference(origin: &Arguments, case: &DayCase, unlike: &[Unlike]) -> 
 fn day_words(answer: &DayAnswer) -> String {
     let (reply, count) = (answer.reply, answer.count.numbers()[0]);
     format!("reply {reply}, count {count}")
+}
+
+pub fn radius_difference(case: &RadiusCase, unlike: &[Unlike]) -> String {
+    let mut words = format!("radius {}\n", case.radius);
+    words += &format!("  due: {}\n", radius_words(&case.due));
+    words += &format!("  came: {}\n", radius_words(&case.came));
+    words + &places(unlike)
+}
+
+fn radius_words(answer: &RadiusAnswer) -> String {
+    let (length, looked) = (answer.length, answer.looked.numbers()[0]);
+    format!("length {length}, looked {looked}")
 }
 
 fn places(unlike: &[Unlike]) -> String {

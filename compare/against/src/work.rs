@@ -7,6 +7,8 @@ use crate::cards;
 use crate::day_case::{self, Call, DayAnswer, DayCase};
 use crate::days;
 use crate::lent::Unlike;
+use crate::radii::radii;
+use crate::radius_case::{self, RadiusAnswer, RadiusCase};
 use crate::seeded::Seeded;
 use crate::tally::{Altered, Tally, FROM_A_BOOK};
 use crate::words;
@@ -25,6 +27,8 @@ const ALTERED_CARD: u64 = 3;
 const ALTERED_BOOK: u64 = 4;
 const DAY: u64 = 5;
 const ALTERED_DAY: u64 = 6;
+const RADIUS: u64 = 7;
+const ALTERED_RADIUS: u64 = 8;
 /// One accepted book in so many has its cards filled into tables too.
 const BOOKS_FILLED: usize = 4;
 
@@ -36,7 +40,7 @@ pub struct Asked {
     pub seed: u64,
 }
 
-/// Does all that is asked, on all cores.
+/// Does all that is asked, and all radii, on all cores.
 pub fn all(asked: Asked) -> Tally {
     let next = AtomicU64::new(0);
     let hands = thread::available_parallelism().map_or(2, usize::from);
@@ -51,7 +55,7 @@ pub fn all(asked: Asked) -> Tally {
     tally
 }
 
-/// Takes the next piece until there is none left.
+/// Takes the next piece until there is none left; the radii are the last one.
 fn pieces(asked: Asked, next: &AtomicU64) -> Tally {
     let card_pieces = asked.cards.div_ceil(PIECE);
     let books_end = card_pieces + asked.books.div_ceil(PIECE);
@@ -65,6 +69,8 @@ fn pieces(asked: Asked, next: &AtomicU64) -> Tally {
             books_of(piece, piece - card_pieces, asked, &mut tally);
         } else if piece < days_end {
             days_of(piece, piece - books_end, asked, &mut tally);
+        } else if piece == days_end {
+            all_radii(piece, asked.seed, &mut tally);
         } else {
             return tally;
         }
@@ -164,6 +170,27 @@ fn days_of(piece: u64, nth: u64, asked: Asked, tally: &mut Tally) {
     }
 }
 
+/// The answers for a radius by the paper and by the call; the seed chooses the guards.
+pub fn answers_for(seed: u64, radius: u32, call: radius_case::Call) -> RadiusCase {
+    let mut seeded = Seeded::new(seed, RADIUS, u64::from(radius));
+    radius_case::run(radius, call, &mut seeded)
+}
+
+/// Each is altered as well.
+fn all_radii(piece: u64, seed: u64, tally: &mut Tally) {
+    for radius in radii() {
+        let case = answers_for(seed, radius, radius_case::library);
+        let unlike = case.due.unlike(&case.came);
+        tally.count_radius(&case);
+        if unlike.is_empty() {
+            let mut altered = Seeded::new(seed, ALTERED_RADIUS, u64::from(radius));
+            alter_radius(&case, &mut altered, tally);
+        } else {
+            tally.differs(piece, || words::radius_difference(&case, &unlike));
+        }
+    }
+}
+
 /// The one altered number, and nothing else, must be found.
 fn is_found(unlike: &[Unlike]) -> bool {
     unlike.len() == 1
@@ -204,4 +231,10 @@ fn alter_day(case: &DayCase, seeded: &mut Seeded, tally: &mut Tally) {
     let answers = (&case.due, &case.came);
     let (alterations, tally) = (&day_case::ALTERATIONS, &mut tally.days.altered);
     alter_each(answers, DayAnswer::unlike, alterations, seeded, tally);
+}
+
+fn alter_radius(case: &RadiusCase, seeded: &mut Seeded, tally: &mut Tally) {
+    let answers = (&case.due, &case.came);
+    let (alterations, tally) = (&radius_case::ALTERATIONS, &mut tally.altered_radii);
+    alter_each(answers, RadiusAnswer::unlike, alterations, seeded, tally);
 }

@@ -1,4 +1,4 @@
-//! The library's four calls, over slices. An empty slice crosses as NULL, as the header allows.
+//! The library's five calls, over slices. An empty slice crosses as NULL, as the header allows.
 
 #[cfg(test)]
 mod header;
@@ -24,6 +24,7 @@ extern "C" {
         replies_length: usize,
         count: *mut u32,
     ) -> u32;
+    fn pippinterm_least_length(radius: u32, looked: *mut u32) -> u32;
     fn pippinterm_read_book(
         text: *const u8,
         text_length: usize,
@@ -87,6 +88,12 @@ pub fn fill_day(
             count,
         )
     }
+}
+
+/// Sets how many listed radii were looked at, and gives the least length of the clothoid in metres.
+pub fn least_length(radius: u32, looked: &mut u32) -> u32 {
+    // SAFETY: the call writes the one number lent here.
+    unsafe { pippinterm_least_length(radius, looked) }
 }
 
 /// Fills the list, sets the count of curves and the line, and gives the reply number.

@@ -1,7 +1,7 @@
 //! How much stack the calls take: less than the header says.
 
 use crate::header::HEADER;
-use crate::{check_card, fill_day, fill_table, read_book};
+use crate::{check_card, fill_day, fill_table, least_length, read_book};
 use std::arch::asm;
 
 /// What the header says, and the same in bytes.
@@ -94,4 +94,21 @@ fn a_days_cards() {
     assert_eq!(replies[..8], [0, 3, 0, 7, 10, 0, 0, 3]);
     assert_eq!(replies[120..], [0, 3, 0, 7, 10, 0, 11, 0]);
     assert!((1..SAID).contains(&taken), "{taken} bytes");
+}
+
+/// At a listed radius, between two of them, at the last one and beyond it.
+#[test]
+fn a_least_length() {
+    let due = [
+        [30, 30, 1],
+        [225, 80, 12],
+        [2000, 100, 20],
+        [u32::MAX, 100, 20],
+    ];
+    for [radius, due_length, due_looked] in due {
+        let (mut length, mut looked) = (0, 0);
+        let taken = taken(|| length = least_length(radius, &mut looked));
+        assert_eq!((length, looked), (due_length, due_looked));
+        assert!((1..SAID).contains(&taken), "{taken} bytes");
+    }
 }

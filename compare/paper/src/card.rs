@@ -138,6 +138,14 @@ pub fn least_length(radius: u32) -> Option<u32> {
     None
 }
 
+/// Document 02, Slip 3: how many listed radii the search for least L looks at,
+/// "for R up to 2000, one more than lie below R".
+pub fn radii_looked_at(radius: u32) -> Option<u32> {
+    let lie_below = LEAST_LENGTHS.iter().filter(|(listed, _)| *listed < radius);
+    let one_more = u32::try_from(lie_below.count() + 1).expect("a count of radii fits");
+    (radius <= GREATEST_RADIUS).then_some(one_more)
+}
+
 /// 0 for a card that none of the reasons 1 to 6 and 8 to 10 refuses, else the first one met.
 ///
 /// Document 02, Slip 1: "Cards that gave 7 go on to the later reasons. Number 7 never occurs again".

@@ -1,6 +1,6 @@
 //! The paper "Superelevation runoff about the axis, categories II to V" (document 01), rule by rule,
 //! with what document 02 changes and adds: Slip 1, "The bank is widened, the shoulder is kept";
-//! Slip 2, "A whole day's cards in one call".
+//! Slip 2, "A whole day's cards in one call"; Slip 3, "Stop looking once found".
 //!
 //! Written to be read beside the papers: their words, their order, exact fractions throughout.
 #![forbid(unsafe_code)]
@@ -19,6 +19,8 @@ pub use rows::{fill_table, rows, stations, TableReply};
 
 #[cfg(test)]
 mod kept_shoulder;
+#[cfg(test)]
+mod once_found;
 #[cfg(test)]
 mod printed;
 #[cfg(test)]

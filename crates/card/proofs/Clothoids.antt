@@ -186,7 +186,7 @@ sought-up-to-2000 r = sought-as r (decLt 2000 r)
 
 pub looked-readings : LookedReadings
 unfolding clothoids leastLength
-looked-readings = record { nought = refl; first = refl; past-first = refl; between = refl; past-1000 = refl; last = refl; past-last = refl }
+looked-readings = record { at-listed = refl; past-listed = refl; nought = refl; between = refl }
 
 -- the length of what the search gives
 pub found-length : (l : LeastLength) (r : ℕ) → l ≡ leastFound r → l .length ≡ leastLength r

@@ -2,7 +2,7 @@
 -- Assumes nothing.
 use mathlib.Core.Path.{_≡_}
 use mathlib.Core.Bool.{cond}
-use mathlib.Core.List.{List, [], _∷_}
+use mathlib.Core.List.{List, [], _∷_, map}
 use Prim.Native.Nat.{ℕ, _+_, max, _≤_, _<_}
 use lib.Dec.{leb, eqb}
 use Rattle.card.specs.declared.LeastLength.{LeastLength}
@@ -43,7 +43,7 @@ abbrev pub lookedAlong : List Clothoid → ℕ → ℕ
 lookedAlong [] r = 0
 lookedAlong (e ∷ es) r = cond (e .radius below r) (lookedAlong es r) 0 + 1
 
--- for a radius r: its least length, and how many of the listed radii
+-- for a radius r: its least length, and how many listed radii are looked at
 abbrev pub leastFound : ℕ → LeastLength
 leastFound r = found (leastLength r) (lookedAlong clothoids r)
 
@@ -73,12 +73,25 @@ pub record BeyondListed : Type 0 where
   pub near : (r : ℕ) → r ≤ 30 → leastLength r ≡ 30
   pub far : (r : ℕ) → 2000 ≤ r → leastLength r ≡ 100
 
--- THEOREM (proofs/Clothoids.antt): below the first listed radius, at it and past it, between two, and about the last. The figures are read off the paper's table by hand
+-- the radii of the paper's table
+abbrev pub radii : List ℕ
+radii =
+    30 ∷ 40 ∷ 50 ∷ 60 ∷ 70 ∷ 80 ∷ 90 ∷ 100 ∷ 125 ∷ 150 ∷ 200 ∷ 250 ∷ 300 ∷ 400 ∷ 500 ∷ 600 ∷ 700 ∷ 800 ∷ 1000 ∷ 2000 ∷ []
+
+-- THEOREM (proofs/Clothoids.antt): at every listed radius and 1 m past it, at 0 and between two. The figures are read off the paper's table by hand
+-- Where the length goes on, as about 700 and 800, only the count tells the radii apart.
 pub record LookedReadings : Type 0 where
+  pub at-listed :
+      map leastFound radii ≡
+      found 30 1 ∷ found 30 2 ∷ found 35 3 ∷ found 40 4 ∷ found 40 5 ∷
+      found 45 6 ∷ found 45 7 ∷ found 50 8 ∷ found 55 9 ∷ found 60 10 ∷
+      found 70 11 ∷ found 80 12 ∷ found 90 13 ∷ found 100 14 ∷ found 110 15 ∷
+      found 120 16 ∷ found 120 17 ∷ found 120 18 ∷ found 120 19 ∷ found 100 20 ∷ []
+  pub past-listed :
+      map (λ (r : ℕ). leastFound (r + 1)) radii ≡
+      found 30 2 ∷ found 35 3 ∷ found 40 4 ∷ found 40 5 ∷ found 45 6 ∷
+      found 45 7 ∷ found 50 8 ∷ found 55 9 ∷ found 60 10 ∷ found 70 11 ∷
+      found 80 12 ∷ found 90 13 ∷ found 100 14 ∷ found 110 15 ∷ found 120 16 ∷
+      found 120 17 ∷ found 120 18 ∷ found 120 19 ∷ found 120 20 ∷ found 100 20 ∷ []
   pub nought : leastFound 0 ≡ found 30 1
-  pub first : leastFound 30 ≡ found 30 1
-  pub past-first : leastFound 31 ≡ found 30 2
   pub between : leastFound 225 ≡ found 80 12
-  pub past-1000 : leastFound 1001 ≡ found 120 20
-  pub last : leastFound 2000 ≡ found 100 20
-  pub past-last : leastFound 2001 ≡ found 100 20

@@ -7,8 +7,8 @@ use crate::conditions::is_outside;
 use crate::conditions::is_too_wide;
 use crate::tables::CLOTHOIDS;
 use crate::tables::PROFILES;
+use crate::tables::lesser;
 use crate::tables::longer;
-use crate::tables::shorter;
 ghost use mathlib.Core.Path.{_≡_};
 ghost use Prim.Native.Nat.{_<_};
 ghost use lib.ListN.{drop};
@@ -88,10 +88,10 @@ pub fn added_slope(p: Profile, terrain: u32) -> u32
 // A radius above 2000, the last listed one, is sought as 2000, so that all twenty are looked at.
 pub fn least_length(radius: u32) -> LeastLength
     ensures { λ l. ⌜ l ≡ leastFound radius ⌝ }
-    ensures above { λ l. ⌜ (2000 < radius → l .looked ≡ 20) ⌝ }
+    ensures { λ l. ⌜ (2000 < radius → l .looked ≡ 20) ⌝ }
 {
     let table = CLOTHOIDS;
-    let sought = shorter(radius, 2000);
+    let sought = lesser(radius, 2000);
     let mut before: u32 = 0;
     let mut i: u32 = 0;
     loop {

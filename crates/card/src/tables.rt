@@ -155,13 +155,15 @@ pub(crate) const CLOTHOIDS: [Clothoid; 20] = [
     },
 ];
 
+// The longer of two lengths.
 pub(crate) fn longer(a: u32, b: u32) -> u32
     ensures { λ r. ⌜ r ≡ max a b ⌝ }
 {
     if a < b { b } else { a }
 }
 
-pub(crate) fn shorter(a: u32, b: u32) -> u32
+// The lesser of two radii.
+pub(crate) fn lesser(a: u32, b: u32) -> u32
     ensures { λ r. ⌜ r ≡ min a b ⌝ }
 {
     if a < b { a } else { b }

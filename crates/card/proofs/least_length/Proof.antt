@@ -52,11 +52,11 @@ goes-on i r inside low past (no h) =
 answers : (l : LeastLength) (r : ℕ) → l ≡ leastFound r → (l ≡ leastFound r) × (2000 < r → l .looked ≡ 20)
 answers l r e = (e, λ above. ap (λ (x : LeastLength). x .looked) e ∙ looked-theorem .above-2000 r above)
 
-shorter-requires : tie.Need-shorter-requires Inv-loop μ-loop
-shorter-requires c κs = tt
+lesser-requires : tie.Need-lesser-requires Inv-loop μ-loop
+lesser-requires c κs = tt
 
 loop-holds : tie.Need-loop-holds Inv-loop μ-loop
-loop-holds c = (omega arith, search-finds _ ∙ ap leastFound (c .shorter .ensures) ∙ sought-up-to-2000 _)
+loop-holds c = (omega arith, search-finds _ ∙ ap leastFound (c .lesser .ensures) ∙ sought-up-to-2000 _)
 
 cast-entry : tie.Need-cast-entry Inv-loop μ-loop
 cast-entry c = omega arith
@@ -78,7 +78,7 @@ unfolding clothoids
 loop-again c =
     let at-loop = c .before .before .before in
     let inside = at-loop .loop .inv .0 in
-    let low : at-loop .before .shorter .result ≤ 2000 = rw (at-loop .before .shorter .ensures) (min-le-right _ 2000) in
+    let low : at-loop .before .lesser .result ≤ 2000 = rw (at-loop .before .lesser .ensures) (min-le-right _ 2000) in
     (goes-on _ _ inside low (c .if1 .left) (decLt _ 19), sym (turn-past clothoids _ _ _ inside (c .if1 .left)) ∙ at-loop .loop .inv .1)
 
 cast-entry-2 : tie.Need-cast-entry-2 Inv-loop μ-loop
@@ -117,7 +117,7 @@ least-length-spec =
     (tie.spec
     Inv-loop
     μ-loop
-    shorter-requires
+    lesser-requires
     loop-holds
     cast-entry
     mul-entry

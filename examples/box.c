@@ -2,7 +2,7 @@
  * A program of the kind that the box has: reads a book of cards from a file,
  * fills the table of each curve and prints it. With --day it fills one table
  * with all the cards of the book by one call, and prints the same. Where a card
- * is refused for its clothoid, it says on standard error how long one may be.
+ * is refused for its clothoid, it says on standard error how long that must be.
  */
 #include "pippinterm.h"
 
@@ -31,14 +31,14 @@ static void print_row(const int32_t *row)
     printf("\n");
 }
 
-/* How long a clothoid may be at the radius of this curve: for the reader, and no part of the sheet. */
+/* What reason 4 asks for at the radius of this curve: for the reader, and no part of the sheet. */
 static void tell_lengths(const uint32_t *curve, int size, const char *name)
 {
     uint32_t radius = curve[PIPPINTERM_CURVE_CARD + PIPPINTERM_CARD_RADIUS];
     uint32_t looked;
     uint32_t least = pippinterm_least_length(radius, &looked);
-    fprintf(stderr, "%.*s: at a radius of %lu m a clothoid has %lu to 300 m\n", size, name,
-            (unsigned long)radius, (unsigned long)least);
+    fprintf(stderr, "%.*s: at a radius of %lu m reason 4 asks for a clothoid of %lu to 300 m\n",
+            size, name, (unsigned long)radius, (unsigned long)least);
 }
 
 /* Prints a curve: its card's reply, and its rows from the start of its part of the table. */

@@ -26,3 +26,15 @@ const GREATER: [u32; 15] = [
 pub fn radii() -> impl Iterator<Item = u32> {
     (0..=GREATEST_RADIUS + 1).chain(GREATER)
 }
+
+#[cfg(test)]
+mod tests {
+    use super::radii;
+
+    #[test]
+    fn none_is_left_out() {
+        assert!(radii().take(2002).eq(0..=2001));
+        assert!(radii().is_sorted());
+        assert_eq!((radii().count(), radii().last()), (2017, Some(u32::MAX)));
+    }
+}

@@ -170,7 +170,7 @@ fn days_of(piece: u64, nth: u64, asked: Asked, tally: &mut Tally) {
     }
 }
 
-/// The answers for a radius by the paper and by the call; the seed chooses the guards.
+/// The answers for a radius by the paper and by the call; the seed chooses the guards and what is there before.
 pub fn answers_for(seed: u64, radius: u32, call: radius_case::Call) -> RadiusCase {
     let mut seeded = Seeded::new(seed, RADIUS, u64::from(radius));
     radius_case::run(radius, call, &mut seeded)

@@ -126,7 +126,7 @@ unfolding leastLength
 at-least-30 r h = le-trans (below-at-least-30 r h) (le-max-left _ _)
 
 -- ---- beyond the listed radii
--- past every listed radius the length below is the last one, and there is none above
+-- past every listed radius the length below is the last one, there is none above, and all are looked at
 abbrev lastLength : ℕ → List Clothoid → ℕ
 lastLength before [] = before
 lastLength before (e ∷ es) = lastLength (e .length) es

@@ -9,12 +9,14 @@ use lib.ListN.{length}
 use lib.Seq.{append-snoc}
 use lib.Dec.{eqb}
 use borrow.Author.Tests.{eq-eqb}
+use Rattle.decimal.specs.Decimal.{Each}
+use Rattle.decimal.proofs.Choices.{cond-case}
 use Rattle.book.specs.Number.{numberAt}
 use Rattle.book.specs.Name.{nameAt}
 use Rattle.book.specs.Contents.{headed, headingAt, headingNext, afterHeading, contentsLine}
 use Rattle.book.specs.Body.{cardNumbers, bodyFrom, numbersAt, afterNumbers}
 use Rattle.book.specs.Book.{mostCurves, acceptedOf, lineThen, bodiesFrom, contentsFrom, afterHeadings, entryAt, entriesFrom}
-use Rattle.book.specs.Printed.{Each, IsName, IsNumber, IsBody, Differs, NoTwins, Curve, contentsText, contentsTexts, bodyText, bodyTexts, namesOf, bodiesOf}
+use Rattle.book.specs.Printed.{IsName, IsNumber, IsBody, Differs, NoTwins, Curve, contentsText, contentsTexts, bodyText, bodyTexts, namesOf, bodiesOf}
 use Rattle.book.specs.LineMeaning.{Stands, Named, LineTheorem}
 use Rattle.book.specs.Meaning.{entries}
 use Rattle.book.specs.declared.text.Field.{Field}
@@ -23,7 +25,6 @@ use Rattle.book.specs.declared.lines.Heading.{Heading}
 use Rattle.book.specs.declared.lines.Heading.the-variants.{Entry, NoEntry}
 use Rattle.book.specs.declared.lines.Line.{Line}
 use Rattle.book.specs.declared.lines.Line.the-variants.{Next}
-use Rattle.book.proofs.Places.{cond-case}
 use Rattle.book.proofs.LineLaws.{line-good}
 use Rattle.book.proofs.BodyText.{body-place}
 use Rattle.book.proofs.Standing.{stands-front, stands-back, stands-starts, name-starts}

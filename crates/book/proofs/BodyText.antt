@@ -5,9 +5,10 @@ use mathlib.Core.Path.{_≡_, refl, sym, ap, _∙_, subst}
 use mathlib.Core.List.{List, [], _∷_}
 use native.Mathlib.Omega.{arith}
 use lib.ListN.{length}
-use Rattle.book.specs.Number.{digitOf, numberAt, fieldValue, fieldNext}
+use Rattle.decimal.specs.Decimal.{digitOf, Each}
+use Rattle.book.specs.Number.{numberAt, fieldValue, fieldNext}
 use Rattle.book.specs.Body.{endOf, fieldThen, bodyFrom, numbersAt, afterNumbers}
-use Rattle.book.specs.Printed.{Each, IsNumber, numberText, bodyText}
+use Rattle.book.specs.Printed.{IsNumber, numberText, bodyText}
 use Rattle.book.specs.LineMeaning.{Stands}
 use Rattle.book.specs.declared.text.Field.{Field}
 use Rattle.book.specs.declared.text.Field.the-variants.{Value, NoValue}

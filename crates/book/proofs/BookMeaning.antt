@@ -7,6 +7,7 @@ use native.Mathlib.Omega.{arith}
 use lib.ListN.{length, drop, replicate, length-replicate}
 use lib.Dec.{ltb}
 use borrow.Author.Tests.{ltb-false}
+use Rattle.decimal.proofs.Choices.{cond-case}
 use Rattle.card_list.specs.List.{curveWidth}
 use Rattle.book.specs.Number.{numberAt, fieldNext}
 use Rattle.book.specs.Book.{leastList, acceptedOf, refusedOf, bodiesFrom, contentsFrom, textReply, replyToBook, afterHeadings, entriesFrom, entriesOf, listAfter, firstHeading}
@@ -17,12 +18,11 @@ use Rattle.book.specs.Reasons.{SaysOfText}
 use Rattle.book.specs.declared.text.Field.the-variants.{Value}
 use Rattle.book.specs.declared.BookReply.{BookReply}
 use Rattle.book.proofs.LineMeaning.{line-theorem}
-use Rattle.book.proofs.Places.{cond-case}
 use Rattle.book.proofs.Replies.{text-good, reply-text, list-filled}
 use Rattle.book.proofs.Lists.{named-none}
 use Rattle.book.proofs.Walks.{text-meant}
 use Rattle.book.proofs.Accepts.{headings-there, contents-there, bodies-there, entries-there}
-use Rattle.book.proofs.BookText.{names-length, bodies-length, book-short, book-some, contentsPlace, bodiesPlace, count-stands, contents-stand, bodies-stand, curves-read}
+use Rattle.book.proofs.BookText.{names-length, bodies-length, book-most, book-some, contentsPlace, bodiesPlace, count-stands, contents-stand, bodies-stand, curves-read}
 
 module _ (lines : LineTheorem) where
   -- the text of the curves of a book
@@ -55,7 +55,7 @@ module _ (lines : LineTheorem) where
         ∙ bodies-there lines text (bodiesOf curves) n 0 (bodiesPlace curves) (book .bodies) (bodies-stand curves)
 
     text-accepted : textReply text ≡ acceptedOf n
-    text-accepted = text-good text (book-some curves) (book-short curves book) count-there (book .some) few ∙ contents-read ∙ bodies-read
+    text-accepted = text-good text (book-some curves) (omega (arith, book-most curves book)) count-there (book .some) few ∙ contents-read ∙ bodies-read
 
     entries-given : entriesOf text n ≡ bookEntries curves
     unfolding entriesOf
@@ -108,7 +108,8 @@ module _ (lines : LineTheorem) where
     only = only-books;
     given = curves-given;
     one = one-book;
-    short = book-short;
+    most = book-most;
+    short = omega arith;
   }
 
 pub meaning : MeaningTheorem

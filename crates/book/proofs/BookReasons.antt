@@ -6,11 +6,11 @@ use mathlib.Core.Bool.{Bool, cond}
 use mathlib.Core.List.{List}
 use lib.Dec.{ltb}
 use borrow.Author.Tests.{ltb-true, ltb-false, ne-eqb}
+use Rattle.decimal.proofs.Choices.{cond-case}
 use Rattle.book.specs.Book.{leastList, refusedOf, textReply, replyToBook}
 use Rattle.book.specs.Reasons.{ShortList, SaysOfText, Says, ReasonsTheorem}
 use Rattle.book.specs.declared.BookReply.{BookReply}
 use Rattle.book.proofs.LineMeaning.{line-theorem}
-use Rattle.book.proofs.Places.{cond-case}
 use Rattle.book.proofs.Replies.{reply-within, list-kept}
 use Rattle.book.proofs.Walks.{text-meant}
 

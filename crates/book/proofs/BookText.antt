@@ -1,19 +1,22 @@
 -- The text of a book: where its lines stand, how long it is, and its curves read from the list of their numbers.
 -- Assumes nothing.
-use Prim.Native.Nat.{ℕ, _+_, _*_, _≤_}
+use Prim.Native.Nat.{ℕ, suc, _+_, _-_, _*_, _^_, _≤_, _<_}
 use mathlib.Core.Path.{_≡_, refl, sym, ap, _∙_, subst}
 use mathlib.Core.List.{List, [], _∷_, _++_, append-assoc, append-nil}
 use native.Mathlib.Omega.{arith}
 use native.Mathlib.Nat.{zero-add}
 use lib.ListN.{length, take, drop, length-append, length-map}
+use lib.Dec.{ltb}
+use borrow.Author.Tests.{ltb-true, ltb-false}
 use lib.Seq.{take-append-seam, take-at, drop-at, drop-length}
+use Rattle.decimal.specs.Decimal.{Each, digitsText}
+use Rattle.decimal.proofs.Choices.{cond-case}
+use Rattle.decimal.proofs.Digits.{digits-most, digits-few}
 use Rattle.card_list.specs.List.{namePlaceIn}
 use Rattle.book.specs.Body.{cardNumbers, endOf}
-use Rattle.book.specs.Book.{mostBytes}
-use Rattle.book.specs.Printed.{Each, IsName, IsBody, IsBook, Curve, digitsText, numberText, contentsText, contentsTexts, bodyText, bodyTexts, namesOf, bodiesOf, bookText}
+use Rattle.book.specs.Printed.{IsName, IsBody, IsBook, Curve, numberText, contentsText, contentsTexts, bodyText, bodyTexts, namesOf, bodiesOf, bookText, greatestBook}
 use Rattle.book.specs.LineMeaning.{Stands}
 use Rattle.book.specs.Meaning.{entries, curveIn, curvesIn}
-use Rattle.book.proofs.Digits.{digits-most}
 use Rattle.book.proofs.Standing.{stands-front, stands-back}
 
 -- a name and a body for each curve
@@ -39,18 +42,25 @@ bodies-most [] eights = omega arith
 bodies-most (numbers ∷ bodies) eights =
     omega (arith, length-append (bodyText numbers) (bodyTexts bodies), body-most numbers, eights .0 .eight, bodies-most bodies (eights .1))
 
-contents-most : (line : ℕ) (names : List (List ℕ)) → Each IsName names → length (contentsTexts line names) ≤ 17 * length names
+-- a number below a power of ten, and the byte that ends it
+number-few : (n v end : ℕ) → 1 ≤ n → v < 10 ^ n → length (numberText v end) ≤ n + 1
+number-few n v end some h = omega (arith, length-append (digitsText 7 v) (end ∷ []), digits-few 7 n v some h)
+
+-- at most 13 bytes a line up to line 999, and one less up to line 99
+contents-most : (line : ℕ) (names : List (List ℕ)) → Each IsName names → line + length names ≤ 1000
+    → length (contentsTexts line names) + (100 - line) ≤ 13 * length names + (100 - line - length names)
 unfolding Each contentsTexts
-contents-most line [] known = omega arith
-contents-most line (name ∷ names) known =
-    omega (
-      arith,
-      length-append (contentsText name line) (contentsTexts (line + 1) names),
-      length-append name (32 ∷ numberText line 10),
-      number-most line 10,
-      known .0 .short,
-      contents-most (line + 1) names (known .1),
-    )
+contents-most line [] known low = omega arith
+contents-most line (name ∷ names) known low =
+    let all = length-append (contentsText name line) (contentsTexts (line + 1) names) in
+    let one = length-append name (32 ∷ numberText line 10) in
+    let rest = contents-most (line + 1) names (known .1) (omega arith) in
+    cond-case (λ (u : Unit {0}). length (contentsText name line ++ contentsTexts (line + 1) names) + (100 - line)
+    ≤ 13 * suc (length names) + (100 - line - suc (length names))) (ltb line 100) tt tt
+    (λ t. let few : length (numberText line 10) ≤ 3 = number-few 2 line 10 (omega arith) (ltb-true line 100 t) in
+    omega (arith, all, one, rest, known .0 .short, ltb-true line 100 t))
+    (λ t. let few : length (numberText line 10) ≤ 4 = number-few 3 line 10 (omega arith) (omega arith) in
+    omega (arith, all, one, rest, known .0 .short, ltb-false line 100 t))
 
 module _ (curves : List Curve) where
   abbrev count : ℕ
@@ -69,13 +79,13 @@ module _ (curves : List Curve) where
   unfolding bookText
   text-length = length-append countLine (contents ++ bodies) ∙ ap (λ (k : ℕ). length countLine + k) (length-append contents bodies)
 
-  pub book-short : IsBook curves → length (bookText curves) ≤ mostBytes
-  book-short book =
+  pub book-most : IsBook curves → length (bookText curves) ≤ greatestBook
+  book-most book =
       omega (
         arith,
         text-length,
-        number-most count 10,
-        contents-most (count + 2) (namesOf curves) (book .names),
+        number-few 2 count 10 (omega arith) (omega (arith, book .few)),
+        contents-most (count + 2) (namesOf curves) (book .names) (omega (arith, names-length curves, book .few)),
         bodies-most (bodiesOf curves) (book .bodies),
         names-length curves,
         bodies-length curves,

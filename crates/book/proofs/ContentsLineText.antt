@@ -7,6 +7,7 @@ use native.Mathlib.Omega.{arith}
 use lib.ListN.{length, take, drop}
 use lib.Dec.{eqb}
 use borrow.Author.Tests.{eqb-false}
+use Rattle.decimal.proofs.Choices.{cond-case}
 use Rattle.book.specs.Number.{numberAt}
 use Rattle.book.specs.Name.{nameAt}
 use Rattle.book.specs.Contents.{headed, headingAt}
@@ -16,7 +17,6 @@ use Rattle.book.specs.declared.text.Field.{Field}
 use Rattle.book.specs.declared.text.Field.the-variants.{Value, NoValue}
 use Rattle.book.specs.declared.lines.Heading.{Heading}
 use Rattle.book.specs.declared.lines.Heading.the-variants.{Entry, NoEntry}
-use Rattle.book.proofs.Places.{cond-case}
 use Rattle.book.proofs.LineLaws.{heading-is}
 use Rattle.book.proofs.Standing.{stands-join, stands-back}
 use Rattle.book.proofs.NumberText.{number-read, number-reads}

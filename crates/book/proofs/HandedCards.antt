@@ -8,9 +8,10 @@ use mathlib.Core.List.{List, [], _∷_, _++_, map, append-assoc}
 use lib.ListN.{length, getD, take, drop, List·getD-append}
 use lib.Seq.{drop-append-add, getD-drop}
 use lib.Dec.{lit<}
+use Rattle.decimal.specs.Decimal.{Each}
 use Rattle.card_list.specs.List.{curveWidth, cardFrom, cardIn, namePlaceIn, nameIn}
 use Rattle.book.specs.Body.{cardNumbers}
-use Rattle.book.specs.Printed.{Curve, IsBody, Each, bodiesOf, contentsText, bookText}
+use Rattle.book.specs.Printed.{Curve, IsBody, bodiesOf, contentsText, bookText}
 use Rattle.book.specs.LineMeaning.{Starts}
 use Rattle.book.specs.Meaning.{entries, curveIn, curvesIn}
 use Rattle.book.specs.Cards.{HandedTheorem}

@@ -7,12 +7,12 @@ use native.Mathlib.Omega.{arith}
 use native.Mathlib.Numerals.{add-one}
 use lib.ListN.{length, getD, take, set}
 use lib.Seq.{take-suc-set}
+use Rattle.decimal.specs.Decimal.{Each}
+use Rattle.decimal.proofs.Choices.{each-more}
 use Rattle.book.specs.Name.{nameAt}
 use Rattle.book.specs.Contents.{afterHeading}
 use Rattle.book.specs.Book.{afterHeadings}
-use Rattle.book.specs.Printed.{Each}
 use Rattle.book.specs.Reading.{keyAt, keysAt, sizesAt, headingsFrom}
-use Rattle.book.proofs.Lists.{each-more}
 
 -- one contents line more, at the end
 module _ (text : List ℕ) where

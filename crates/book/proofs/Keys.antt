@@ -11,10 +11,11 @@ use lib.ListN.{length, getD, drop, drop-of-length-le}
 use lib.Seq.{drop-cons}
 use lib.Dec.{eqb, leb}
 use borrow.Author.Tests.{leb-true, leb-false, lt-leb, eqb-true, eqb-false, eq-eqb, ne-eqb}
+use Rattle.decimal.specs.Decimal.{Each}
+use Rattle.decimal.proofs.Choices.{cond-case}
 use Rattle.book.specs.Number.{byteAt, numberAt}
 use Rattle.book.specs.Name.{isNameByte, nameRun, nameAt, sameBytes, twinAt}
 use Rattle.book.specs.Contents.{headed, headingAt, contentsLineOf, contentsLine, headingNext, afterHeading}
-use Rattle.book.specs.Printed.{Each}
 use Rattle.book.specs.Reading.{keyFrom, keyAt, keysAt, among, lineBy}
 use Rattle.book.specs.declared.text.Field.{Field}
 use Rattle.book.specs.declared.text.Field.the-variants.{Value, NoValue}
@@ -22,7 +23,6 @@ use Rattle.book.specs.declared.lines.Heading.{Heading}
 use Rattle.book.specs.declared.lines.Heading.the-variants.{Entry, NoEntry}
 use Rattle.book.specs.declared.lines.Line.{Line}
 use Rattle.book.specs.declared.lines.Line.the-variants.{Next, Fault}
-use Rattle.book.proofs.Places.{cond-case}
 use Rattle.book.proofs.TwinText.{same-head, same-cons}
 
 module _ (keys : List ℕ) (key i : ℕ) where
@@ -58,7 +58,7 @@ name-byte-most b h =
     absurd (false≢true (sym (simp (lt-leb b 57 (omega arith), lt-leb b 90 l, and-false)) ∙ h)))
 
 -- two tests are one where each passes if the other does
-one-test : (p q : Bool) → (p ≡ true → q ≡ true) → (q ≡ true → p ≡ true) → p ≡ q
+pub one-test : (p q : Bool) → (p ≡ true → q ≡ true) → (q ≡ true → p ≡ true) → p ≡ q
 one-test true q f g = sym (f refl)
 one-test false true f g = g refl
 one-test false false f g = refl
@@ -122,17 +122,17 @@ module _ (text : List ℕ) where
 
   module _ (a b : ℕ) where
     -- the same key means the same bytes, as many
-    same-bytes : (n m : ℕ) → n ≤ nameRun 8 text a → m ≤ nameRun 8 text b → keyFrom n text a ≡ keyFrom m text b
+    pub same-bytes : (k l n m : ℕ) → n ≤ nameRun k text a → m ≤ nameRun l text b → keyFrom n text a ≡ keyFrom m text b
         → (n ≡ m) × (sameBytes n text a b ≡ true)
     unfolding keyFrom sameBytes
-    same-bytes zero zero p q e = (refl, refl)
-    same-bytes zero (suc m) p q e = absurd (omega (arith, name-byte-some (byteAt text (b + m)) (run-byte 8 b m (omega arith))))
-    same-bytes (suc n) zero p q e = absurd (omega (arith, name-byte-some (byteAt text (a + n)) (run-byte 8 a n (omega arith))))
-    same-bytes (suc n) (suc m) p q e =
-        let x : byteAt text (a + n) ≤ 90 = name-byte-most _ (run-byte 8 a n (omega arith)) in
-        let y : byteAt text (b + m) ≤ 90 = name-byte-most _ (run-byte 8 b m (omega arith)) in
+    same-bytes k l zero zero p q e = (refl, refl)
+    same-bytes k l zero (suc m) p q e = absurd (omega (arith, name-byte-some (byteAt text (b + m)) (run-byte l b m (omega arith))))
+    same-bytes k l (suc n) zero p q e = absurd (omega (arith, name-byte-some (byteAt text (a + n)) (run-byte k a n (omega arith))))
+    same-bytes k l (suc n) (suc m) p q e =
+        let x : byteAt text (a + n) ≤ 90 = name-byte-most _ (run-byte k a n (omega arith)) in
+        let y : byteAt text (b + m) ≤ 90 = name-byte-most _ (run-byte l b m (omega arith)) in
         let last : byteAt text (a + n) ≡ byteAt text (b + m) = omega arith in
-        let r = same-bytes n m (omega arith) (omega arith) (omega arith) in
+        let r = same-bytes k l n m (omega arith) (omega arith) (omega arith) in
         (ap suc (r .0), same-more n a b (r .1) (last ∙ ap (λ (j : ℕ). byteAt text (b + j)) (sym (r .0))))
 
   -- a name is the run of its bytes, and has a blank after it
@@ -149,7 +149,7 @@ module _ (text : List ℕ) where
       let y = name-run b q in
       rw (y .0, add-one)
       (one-test _ _
-      (λ t. let r = same-bytes a b (nameRun 8 text a) (nameRun 8 text b) (omega arith) (omega arith) (eqb-true _ _ t) in
+      (λ t. let r = same-bytes a b 8 8 (nameRun 8 text a) (nameRun 8 text b) (omega arith) (omega arith) (eqb-true _ _ t) in
       subst (λ (n : ℕ). sameBytes (suc n) text a b ≡ true) (r .0)
       (same-more (nameRun 8 text a) a b (r .1) (x .1 ∙ sym (y .1) ∙ ap (λ (n : ℕ). byteAt text (b + n)) (sym (r .0)))))
       (λ t. eq-eqb _ _

@@ -4,7 +4,6 @@ pub mod LineLaws
 pub mod Replies
 pub mod Stores
 pub mod Standing
-pub mod Digits
 pub mod NumberText
 pub mod NameText
 pub mod ContentsLineText
@@ -23,3 +22,7 @@ pub mod BookMeaning
 pub mod BookReasons
 pub mod HandedCards
 pub mod RampReads
+pub mod WriterNames
+pub mod WriterLines
+pub mod WriterReplies
+pub mod WriterMeaning

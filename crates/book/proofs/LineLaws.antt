@@ -8,6 +8,7 @@ use native.Mathlib.Omega.{arith}
 use lib.ListN.{length}
 use lib.Dec.{eqb, lit<}
 use borrow.Author.Tests.{eq-eqb, ne-eqb}
+use Rattle.decimal.proofs.Choices.{cond-case, none-left}
 use Rattle.book.specs.Number.{numberAt}
 use Rattle.book.specs.Name.{nameAt, twinAt}
 use Rattle.book.specs.Contents.{headed, headingAt, contentsLineOf, contentsLine}
@@ -18,7 +19,7 @@ use Rattle.book.specs.declared.lines.Heading.{Heading}
 use Rattle.book.specs.declared.lines.Heading.the-variants.{Entry, NoEntry}
 use Rattle.book.specs.declared.lines.Line.{Line}
 use Rattle.book.specs.declared.lines.Line.the-variants.{Next, Fault}
-use Rattle.book.proofs.Places.{cond-case, none-left, FieldIn, field-in}
+use Rattle.book.proofs.Places.{FieldIn, field-in}
 
 -- a blank stands before another number of a body
 pub end-some : (k : ℕ) → (k ≡ 0 → ⊥) → endOf k ≡ 32

@@ -1,28 +1,17 @@
--- Laws of what holds of each of a list, and of lists of names and bodies that get one more at the end.
+-- Laws of lists of names and bodies that get one more at the end.
 -- Assumes nothing.
 use Prim.Native.Nat.{ℕ, suc, _+_}
 use mathlib.Core.Path.{_≡_, refl, sym, ap, _∙_}
 use mathlib.Core.List.{List, [], _∷_, _++_, append-assoc, append-nil}
 use native.Mathlib.Omega.{arith}
 use lib.ListN.{length, drop, length-append}
+use Rattle.decimal.specs.Decimal.{Each}
+use Rattle.decimal.proofs.Choices.{each-more}
 use Rattle.book.specs.LineMeaning.{Starts, Named}
-use Rattle.book.specs.Printed.{Each, IsName, Differs, NoTwins, contentsText, contentsTexts, bodyText, bodyTexts}
+use Rattle.book.specs.Printed.{IsName, Differs, NoTwins, contentsText, contentsTexts, bodyText, bodyTexts}
 
 pub length-more : {A : Type 0} (xs : List A) (x : A) → length (xs ++ (x ∷ [])) ≡ length xs + 1
 length-more xs x = length-append xs (x ∷ [])
-
-pub each-none : {A : Type 0} (P : A → Type 0) → Each P []
-unfolding Each
-each-none P = tt
-
-pub each-first : {A : Type 0} (P : A → Type 0) (x : A) (xs : List A) → Each P (x ∷ xs) → P x
-unfolding Each
-each-first P x xs ps = ps .0
-
-pub each-more : {A : Type 0} (P : A → Type 0) (xs : List A) (x : A) → Each P xs → P x → Each P (xs ++ (x ∷ []))
-unfolding Each
-each-more P [] x ps p = (p, tt)
-each-more P (y ∷ xs) x ps p = (ps .0, each-more P xs x (ps .1) p)
 
 -- a name that differs from all before
 pub twins-more : (names : List (List ℕ)) (name : List ℕ) → NoTwins names → Each (Differs name) names → NoTwins (names ++ (name ∷ []))

@@ -10,11 +10,13 @@ use lib.ListN.{length, take, drop, length-drop, take-append-drop}
 use lib.Seq.{drop-cons, drop-drop, length-take-le}
 use lib.Dec.{eqb}
 use borrow.Author.Tests.{eqb-true, eq-eqb}
+use Rattle.decimal.specs.Decimal.{Each}
+use Rattle.decimal.proofs.Choices.{cond-case}
 use Rattle.book.specs.Number.{byteAt}
 use Rattle.book.specs.Name.{isNameByte, nameRun, nameAt}
-use Rattle.book.specs.Printed.{Each, IsName}
+use Rattle.book.specs.Printed.{IsName}
 use Rattle.book.specs.LineMeaning.{Stands}
-use Rattle.book.proofs.Places.{cond-case, byte-inside}
+use Rattle.book.proofs.Places.{byte-inside}
 use Rattle.book.proofs.Names.{name-byte-inside, run-stop}
 use Rattle.book.proofs.Standing.{byte-there, rest-there, stands-one}
 
@@ -31,13 +33,13 @@ pub record NameThere (text : List ℕ) (at size : ℕ) : Type 0 where
 
 module _ (text : List ℕ) where
   -- a run of at most k bytes has at most k, and each is a name's
-  run-most : (k at : ℕ) → nameRun k text at ≤ k
+  pub run-most : (k at : ℕ) → nameRun k text at ≤ k
   unfolding nameRun
   run-most zero at = omega arith
   run-most (suc k) at =
       cond-case (λ (n : ℕ). n ≤ suc k) (isNameByte (byteAt text at)) _ _ (λ t. omega (arith, run-most k (at + 1))) (λ t. omega arith)
 
-  run-bytes : (k at : ℕ) → NameBytes (take (nameRun k text at) (drop at text))
+  pub run-bytes : (k at : ℕ) → NameBytes (take (nameRun k text at) (drop at text))
   unfolding nameRun Each
   run-bytes zero at = tt
   run-bytes (suc k) at =

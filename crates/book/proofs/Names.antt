@@ -8,9 +8,10 @@ use native.Mathlib.Omega.{arith}
 use lib.ListN.{length}
 use lib.Dec.{eqb}
 use borrow.Author.Tests.{eqb-true}
+use Rattle.decimal.proofs.Choices.{cond-case}
 use Rattle.book.specs.Number.{byteAt}
 use Rattle.book.specs.Name.{isNameByte, nameRun, nameAt}
-use Rattle.book.proofs.Places.{cond-case, inside, byte-inside}
+use Rattle.book.proofs.Places.{inside, byte-inside}
 
 -- a byte of a name stands inside the text
 pub name-byte-inside : (text : List ℕ) (at : ℕ) → isNameByte (byteAt text at) ≡ true → at < length text
@@ -33,14 +34,14 @@ module _ (text : List ℕ) where
   run-more k at h = rw h
 
   -- one byte more
-  pub run-turn : (from n : ℕ) → n < 8 → isNameByte (byteAt text (from + n)) ≡ true
-      → n + nameRun (8 - n) text (from + n) ≡ n + 1 + nameRun (8 - (n + 1)) text (from + (n + 1))
-  run-turn from n l h =
-      let k : 8 - n ≡ suc (8 - (n + 1)) = omega arith in
+  pub run-turn : (most from n : ℕ) → n < most → isNameByte (byteAt text (from + n)) ≡ true
+      → n + nameRun (most - n) text (from + n) ≡ n + 1 + nameRun (most - (n + 1)) text (from + (n + 1))
+  run-turn most from n l h =
+      let k : most - n ≡ suc (most - (n + 1)) = omega arith in
       let p : from + n + 1 ≡ from + (n + 1) = omega arith in
-      let e : nameRun (8 - n) text (from + n) ≡ nameRun (suc (8 - (n + 1))) text (from + n) = ap (λ (m : ℕ). nameRun m text (from + n)) k in
-      let f : nameRun (8 - (n + 1)) text (from + n + 1) ≡ nameRun (8 - (n + 1)) text (from + (n + 1)) = ap (nameRun (8 - (n + 1)) text) p in
-      omega (arith, run-more (8 - (n + 1)) (from + n) h)
+      let e : nameRun (most - n) text (from + n) ≡ nameRun (suc (most - (n + 1))) text (from + n) = ap (λ (m : ℕ). nameRun m text (from + n)) k in
+      let f : nameRun (most - (n + 1)) text (from + n + 1) ≡ nameRun (most - (n + 1)) text (from + (n + 1)) = ap (nameRun (most - (n + 1)) text) p in
+      omega (arith, run-more (most - (n + 1)) (from + n) h)
 
   -- the bytes that are counted stand inside the text
   pub run-in : (k at : ℕ) → at ≤ length text → at + nameRun k text at ≤ length text

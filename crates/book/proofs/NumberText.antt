@@ -9,14 +9,16 @@ use native.Mathlib.Nat.{eq-zero-or-pos}
 use lib.ListN.{length}
 use lib.Dec.{ltb, eqb, lit<}
 use borrow.Author.Tests.{ltb-true, ltb-false, eqb-true, eqb-false, eq-eqb}
-use Rattle.book.specs.Number.{byteAt, digitOf, digitAt, endedAt, digitsAt, numberAt}
-use Rattle.book.specs.Printed.{IsNumber, digitsText, numberText}
+use Rattle.decimal.specs.Decimal.{digitOf, digitsText}
+use Rattle.decimal.proofs.Choices.{cond-case}
+use Rattle.decimal.proofs.Digits.{of-digit, digit-or, text-one, text-more, text-seven, tenth-below}
+use Rattle.book.specs.Number.{byteAt, digitAt, endedAt, digitsAt, numberAt}
+use Rattle.book.specs.Printed.{IsNumber, numberText}
 use Rattle.book.specs.LineMeaning.{Stands}
 use Rattle.book.specs.declared.text.Field.{Field}
 use Rattle.book.specs.declared.text.Field.the-variants.{Value, NoValue}
-use Rattle.book.proofs.Places.{cond-case, byte-inside, digit-inside, digits-stop, digits-more, base-more, power-wide, field-zero, field-some}
+use Rattle.book.proofs.Places.{byte-inside, digit-inside, digits-stop, digits-more, base-more, power-wide, field-zero, field-some}
 use Rattle.book.proofs.Standing.{byte-there, stands-one, stands-join, stands-front, stands-back}
-use Rattle.book.proofs.Digits.{digit-or, text-one, text-more, text-seven, tenth-below}
 
 -- the byte of a digit
 digit-byte : (b : ℕ) → digitOf b < 10 → b ≡ 48 + digitOf b
@@ -78,12 +80,7 @@ module _ (text : List ℕ) where
     pub number-read : (at v next : ℕ) → numberAt text at end ≡ Value v next → IsNumber v × Stands text at (numberText v end) next
     number-read at v next e = subst (Read at) e (read-of at)
 
--- the digit of a byte, and at a place where its text stands
-pub of-digit : (d : ℕ) → d < 10 → digitOf (48 + d) ≡ d
-of-digit d h =
-    cond-case (λ (n : ℕ). n ≡ d) (ltb (48 + d) 48) _ _ (λ t. absurd (omega (arith, ltb-true (48 + d) 48 t)))
-    (λ t. cond-case (λ (n : ℕ). n ≡ d) (ltb 57 (48 + d)) _ _ (λ u. absurd (omega (arith, ltb-true 57 (48 + d) u))) (λ u. omega arith))
-
+-- the digit at a place where its text stands
 module _ (text : List ℕ) where
   digit-there : (at d next : ℕ) → d < 10 → Stands text at ((48 + d) ∷ []) next → digitAt text at ≡ d
   unfolding digitAt

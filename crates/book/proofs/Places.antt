@@ -2,7 +2,6 @@
 -- Assumes nothing.
 use Prim.Native.Nat.{ℕ, zero, suc, _+_, _-_, _*_, _^_, _≤_, _<_, suc-le-suc}
 use mathlib.Core.Path.{_≡_, refl, ap, _∙_, subst}
-use mathlib.Core.Bool.{Bool, true, false, cond}
 use mathlib.Core.List.{List, [], _∷_}
 use native.Mathlib.Omega.{arith}
 use native.Mathlib.Nat.{pow-suc, pow-le-pow-right, mul-le-mul-right, suc-mul, lt-of-lt-of-le}
@@ -10,18 +9,11 @@ use native.Mathlib.Numerals.{add-one}
 use lib.ListN.{length}
 use lib.Dec.{ltb, eqb}
 use borrow.Author.Tests.{lt-ltb, le-ltb, eqb-true, eq-eqb, ne-eqb}
-use Rattle.book.specs.Number.{byteAt, digitOf, digitAt, endedAt, digitsAt, numberAt}
+use Rattle.decimal.specs.Decimal.{digitOf}
+use Rattle.decimal.proofs.Choices.{cond-case}
+use Rattle.book.specs.Number.{byteAt, digitAt, endedAt, digitsAt, numberAt}
 use Rattle.book.specs.declared.text.Field.{Field}
 use Rattle.book.specs.declared.text.Field.the-variants.{Value, NoValue}
-
--- what holds in both cases of a test holds of the choice
-pub cond-case : {A : Type 0} (P : A → Type 0) (b : Bool) (x y : A) → (b ≡ true → P x) → (b ≡ false → P y) → P (cond b x y)
-cond-case P true x y p q = p refl
-cond-case P false x y p q = q refl
-
--- where none is left, all is as at the start
-pub none-left : {A : Type 0} (f : ℕ → A) (k : ℕ) → k ≤ 0 → f k ≡ f 0
-none-left f k h = let z : k ≡ 0 = omega arith in ap f z
 
 -- a byte that the 0 past the end is not stands inside the text
 pub inside : (P : ℕ → Type 0) → (P 0 → ⊥) → (text : List ℕ) (at : ℕ) → P (byteAt text at) → at < length text

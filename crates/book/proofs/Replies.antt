@@ -10,6 +10,7 @@ use lib.ListN.{length, take, drop, set}
 use lib.Seq.{length-take-le, take-suc-set}
 use lib.Dec.{ltb, leb, eqb}
 use borrow.Author.Tests.{leb-true, le-leb, lt-leb, lt-ltb, le-ltb, ltb-false, eq-eqb, ne-eqb}
+use Rattle.decimal.proofs.Choices.{cond-case}
 use Rattle.card_list.specs.List.{curveWidth}
 use Rattle.book.specs.Number.{numberAt}
 use Rattle.book.specs.Contents.{contentsLine}
@@ -20,7 +21,6 @@ use Rattle.book.specs.declared.text.Field.the-variants.{Value, NoValue}
 use Rattle.book.specs.declared.lines.Line.{Line}
 use Rattle.book.specs.declared.lines.Line.the-variants.{Next, Fault}
 use Rattle.book.specs.declared.BookReply.{BookReply}
-use Rattle.book.proofs.Places.{cond-case}
 
 module _ (text : List ℕ) (n i at : ℕ) where
   -- one body, and what follows it

@@ -6,12 +6,14 @@ use mathlib.Core.List.{List, [], _∷_, _++_, append-assoc, append-nil}
 use native.Mathlib.Omega.{arith}
 use native.Mathlib.Nat.{suc-inj}
 use lib.ListN.{length, drop}
+use Rattle.decimal.specs.Decimal.{Each}
+use Rattle.decimal.proofs.Choices.{each-more}
 use Rattle.book.specs.Book.{mostCurves}
 use Rattle.book.specs.LineMeaning.{Stands}
-use Rattle.book.specs.Printed.{Each, IsName, IsBody, Differs, NoTwins, Curve, numberText, contentsText, contentsTexts, bodyText, bodyTexts, linesText, namesOf, bodiesOf, bookText}
+use Rattle.book.specs.Printed.{IsName, IsBody, Differs, NoTwins, Curve, numberText, contentsText, contentsTexts, bodyText, bodyTexts, linesText, namesOf, bodiesOf, bookText}
 use Rattle.book.specs.Meaning.{TextOfBook}
 use Rattle.book.specs.Reasons.{Right}
-use Rattle.book.proofs.Lists.{each-more, twins-more, contents-more-text, bodies-more-text}
+use Rattle.book.proofs.Lists.{twins-more, contents-more-text, bodies-more-text}
 
 -- the text of the lines, one line longer
 lines-name : (n : ℕ) (names : List (List ℕ)) (name : List ℕ)

@@ -7,6 +7,8 @@ use native.Mathlib.Omega.{arith}
 use native.Mathlib.Numerals.{add-one}
 use lib.ListN.{length, getD, take, drop, set, length-append, drop-of-length-le}
 use lib.Seq.{sets, sets-eq, drop-cons, set-at, take-at, append-snoc, take-suc, length-take-le}
+use Rattle.decimal.proofs.Choices.{none-left}
+use Rattle.decimal.proofs.Stores.{sets-append}
 use Rattle.card_list.specs.List.{curveWidth}
 use Rattle.book.specs.Number.{numberAt, fieldValue, fieldNext}
 use Rattle.book.specs.Name.{nameAt}
@@ -15,7 +17,6 @@ use Rattle.book.specs.Body.{cardNumbers, endOf, numbersAt, afterNumbers}
 use Rattle.book.specs.Book.{mostCurves, leastList, entryAt, entriesFrom, entriesOf}
 use Rattle.book.specs.Reading.{headingsFrom, entriesBy}
 use Rattle.book.specs.declared.text.Field.{Field}
-use Rattle.book.proofs.Places.{none-left}
 
 module _ (text : List ℕ) (at k end : ℕ) (more : 0 < k) (ends : end ≡ endOf (k - 1)) (f : Field) (read : f ≡ numberAt text at end) where
   read-is : numberAt text at (endOf (k - 1)) ≡ f
@@ -53,13 +54,6 @@ entry-stores text heading body l out n e =
 entry-length : (text : List ℕ) (heading body : ℕ) → length (entryAt text heading body) ≡ curveWidth
 unfolding entryAt
 entry-length text heading body = ap (λ (m : ℕ). suc (suc m)) (numbers-length cardNumbers text body)
-
--- a run of stores in two parts
-pub sets-append : (xs ys l : List ℕ) (i : ℕ) → sets l i (xs ++ ys) ≡ sets (sets l i xs) (i + length xs) ys
-sets-append [] ys l i = let z : i ≡ i + 0 = omega arith in ap (λ (k : ℕ). sets l k ys) z
-sets-append (x ∷ xs) ys l i =
-    let z : suc i + length xs ≡ i + suc (length xs) = omega arith in
-    sets-append xs ys (set l i x) (suc i) ∙ ap (λ (k : ℕ). sets (sets (set l i x) (suc i) xs) k ys) z
 
 module _ (text places : List ℕ) (i body : ℕ) (l : List ℕ) (out : ℕ) where
   -- after the last curve, no store

@@ -9,11 +9,12 @@ use lib.ListN.{length, drop}
 use lib.Seq.{append-snoc}
 use lib.Dec.{eqb}
 use borrow.Author.Tests.{eqb-true, eq-eqb}
+use Rattle.decimal.specs.Decimal.{Each}
+use Rattle.decimal.proofs.Choices.{cond-case}
 use Rattle.book.specs.Number.{byteAt}
 use Rattle.book.specs.Name.{isNameByte, sameBytes, twinAt}
-use Rattle.book.specs.Printed.{Each, IsName, Differs}
+use Rattle.book.specs.Printed.{IsName, Differs}
 use Rattle.book.specs.LineMeaning.{Starts, Named}
-use Rattle.book.proofs.Places.{cond-case}
 use Rattle.book.proofs.Standing.{byte-there, rest-there}
 use Rattle.book.proofs.NameText.{NameBytes}
 

@@ -8,6 +8,7 @@ use native.Mathlib.Omega.{arith}
 use lib.ListN.{length, take, drop, length-drop, drop-of-length-le}
 use lib.Dec.{ltb, leb, eqb, lit<}
 use borrow.Author.Tests.{leb-true, le-leb, ltb-true, ltb-false, eqb-true, eqb-false, ne-eqb}
+use Rattle.decimal.proofs.Choices.{cond-case}
 use Rattle.book.specs.Number.{numberAt, fieldValue}
 use Rattle.book.specs.Name.{twinAt}
 use Rattle.book.specs.Contents.{headingAt, contentsLineOf, contentsLine}
@@ -23,7 +24,6 @@ use Rattle.book.specs.declared.lines.Heading.the-variants.{Entry, NoEntr
 use Rattle.book.specs.declared.lines.Line.{Line}
 use Rattle.book.specs.declared.lines.Line.the-variants.{Next, Fault}
 use Rattle.book.specs.declared.BookReply.{BookReply}
-use Rattle.book.proofs.Places.{cond-case}
 use Rattle.book.proofs.LineLaws.{Faults26, body-26}
 use Rattle.book.proofs.Replies.{line-case}
 use Rattle.book.proofs.Outcomes.{IsValue, IsEntry, IsNext}

@@ -10,3 +10,6 @@ pub mod Cards
 pub mod Meaning
 pub mod Reasons
 pub mod RampBook
+pub mod Writing
+pub mod WriterSteps
+pub mod Written

@@ -6,11 +6,12 @@ use mathlib.Core.Path.{_≡_}
 use mathlib.Core.List.{List, [], _∷_, _++_}
 use mathlib.Core.Bool.{true, false}
 use lib.ListN.{length, take, drop}
-use Rattle.book.specs.Number.{digitOf, numberAt}
+use Rattle.decimal.specs.Decimal.{digitOf, Each}
+use Rattle.book.specs.Number.{numberAt}
 use Rattle.book.specs.Name.{twinAt}
 use Rattle.book.specs.Contents.{headingAt}
 use Rattle.book.specs.Body.{cardNumbers, bodyFrom, numbersAt}
-use Rattle.book.specs.Printed.{Each, IsName, IsNumber, IsBody, Differs, numberText, contentsText, bodyText}
+use Rattle.book.specs.Printed.{IsName, IsNumber, IsBody, Differs, numberText, contentsText, bodyText}
 use Rattle.book.specs.declared.text.Field.the-variants.{Value}
 use Rattle.book.specs.declared.lines.Heading.the-variants.{Entry}
 use Rattle.book.specs.declared.lines.Line.the-variants.{Next}

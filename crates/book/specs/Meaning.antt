@@ -8,7 +8,7 @@ use lib.ListN.{length, take, drop}
 use Rattle.card_list.specs.List.{curveWidth, nameIn}
 use Rattle.book.specs.Body.{cardNumbers}
 use Rattle.book.specs.Book.{leastList, mostBytes, acceptedOf, replyToBook, listAfter}
-use Rattle.book.specs.Printed.{Curve, IsBook, numberText, contentsText, bookText}
+use Rattle.book.specs.Printed.{Curve, IsBook, numberText, contentsText, bookText, greatestBook}
 
 -- ten numbers a curve: the byte place of its name, its length, the eight numbers;
 -- the first contents line stands at this place and names this line
@@ -50,5 +50,6 @@ pub record MeaningTheorem : Type 0 where
       → curvesIn (length curves) (bookText curves) (bookEntries curves ++ rest) ≡ curves
   -- two books with the same text have the same curves
   pub one : (curves others : List Curve) → IsBook curves → IsBook others → bookText curves ≡ bookText others → curves ≡ others
-  -- the text of a book is never too long: 21 refuses no book of 1 to 64 curves
-  pub short : (curves : List Curve) → IsBook curves → length (bookText curves) ≤ mostBytes
+  -- the text of a book is never too long: it has at most 4897 bytes, and so 21 refuses no book of 1 to 64 curves
+  pub most : (curves : List Curve) → IsBook curves → length (bookText curves) ≤ greatestBook
+  pub short : greatestBook ≤ mostBytes

@@ -1,11 +1,12 @@
 -- Document 01, "The book of cards": numbers, each at a place of the text. A place counts bytes from 0.
 -- Numbers are decimal, 1 to 7 digits, no leading zero but in 0 itself.
 -- Assumes nothing.
-use Prim.Native.Nat.{ℕ, zero, suc, _+_, _-_, _*_}
+use Prim.Native.Nat.{ℕ, zero, suc, _+_, _*_}
 use mathlib.Core.List.{List}
 use mathlib.Core.Bool.{cond}
 use lib.ListN.{getD}
 use lib.Dec.{ltb, eqb}
+use Rattle.decimal.specs.Decimal.{digitOf}
 use Rattle.book.specs.declared.text.Field.{Field}
 use Rattle.book.specs.declared.text.Field.the-variants.{Value, NoValue}
 
@@ -13,10 +14,7 @@ use Rattle.book.specs.declared.text.Field.the-variants.{Value, NoValue}
 abbrev pub byteAt : List ℕ → ℕ → ℕ
 byteAt text at = getD text at 0
 
--- the value of a decimal digit (bytes 48 to 57), and 10 for any other byte
-abbrev pub digitOf : ℕ → ℕ
-digitOf b = cond (ltb b 48) 10 (cond (ltb 57 b) 10 (b - 48))
-
+-- the value of the digit at a place, and 10 where no digit stands
 unfoldable pub digitAt : List ℕ → ℕ → ℕ
 digitAt text at = digitOf (byteAt text at)
 

@@ -1,19 +1,14 @@
 -- Document 01, "The book of cards": the text of a book, from the names and numbers of its curves.
 -- Assumes nothing.
-use Prim.Native.Nat.{ℕ, zero, suc, _+_, _/_, _%_, _≤_, _<_}
+use Prim.Native.Nat.{ℕ, _+_, _≤_, _<_}
 use mathlib.Core.Path.{_≡_}
 use mathlib.Core.List.{List, [], _∷_, _++_, map}
-use mathlib.Core.Bool.{true, cond}
+use mathlib.Core.Bool.{true}
 use lib.ListN.{length}
-use lib.Dec.{ltb}
+use Rattle.decimal.specs.Decimal.{Each, digitsText}
 use Rattle.book.specs.Name.{isNameByte}
 use Rattle.book.specs.Body.{cardNumbers, endOf}
 use Rattle.book.specs.Book.{mostCurves}
-
--- the text of a number: its decimal digits, at most k of them
-unfoldable pub digitsText : ℕ → ℕ → List ℕ
-digitsText zero v = []
-digitsText (suc k) v = cond (ltb v 10) ((48 + v) ∷ []) (digitsText k (v / 10) ++ ((48 + v % 10) ∷ []))
 
 -- a number of 1 to 7 digits and the byte that ends it
 abbrev pub numberText : ℕ → ℕ → List ℕ
@@ -57,10 +52,9 @@ bodiesOf = map (λ (curve : Curve). curve .numbers)
 unfoldable pub bookText : List Curve → List ℕ
 bookText curves = linesText (length curves) (namesOf curves) (bodiesOf curves)
 
--- something holds of each of a list
-unfoldable pub Each : {A : Type 0} → (A → Type 0) → List A → Type 0
-Each P [] = Unit
-Each P (x ∷ xs) = P x × Each P xs
+-- no book has more bytes: 64 curves, their names of 8 bytes in lines of 2 and 3 digits, their numbers of 7 digits
+abbrev pub greatestBook : ℕ
+greatestBook = 4897
 
 -- a name: 1 to 8 capitals or digits
 pub record IsName (name : List ℕ) : Type 0 where

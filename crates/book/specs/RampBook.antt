@@ -1,4 +1,4 @@
--- Document 01's own book, of one curve: its text, what the call replies, the numbers that the list gets, and its card.
+-- Document 01's own book, of one curve: its text, what the reader replies, the numbers that the list gets, its card, and the book written back.
 -- Assumes nothing.
 use Prim.Native.Nat.{ℕ}
 use mathlib.Core.Path.{_≡_}
@@ -8,6 +8,8 @@ use Rattle.card.specs.Card as card
 use Rattle.book.specs.Book.{leastList, acceptedOf, replyToBook, listAfter}
 use Rattle.book.specs.Printed.{Curve, IsBook, bookText}
 use Rattle.card_list.specs.List.{cardOf}
+use Rattle.card.specs.Table.{replyBy}
+use Rattle.book.specs.Writing.{replyToList, bufferAfter}
 
 -- 1, RAMP 3, 5 1 30 30000 60 600 20000 1: three lines, each ended by byte 10
 abbrev pub rampText : List ℕ
@@ -19,12 +21,20 @@ rampText =
 abbrev pub ramp : Curve
 ramp = record { name = 82 ∷ 65 ∷ 77 ∷ 80 ∷ []; numbers = 5 ∷ 1 ∷ 30 ∷ 30000 ∷ 60 ∷ 600 ∷ 20000 ∷ 1 ∷ [] }
 
+-- what the list gets: the name stands at byte 2 and has 4 bytes
+abbrev pub rampList : List ℕ
+rampList = 2 ∷ 4 ∷ 5 ∷ 1 ∷ 30 ∷ 30000 ∷ 60 ∷ 600 ∷ 20000 ∷ 1 ∷ []
+
 -- THEOREM (proofs/RampReads.antt):
 pub record RampBook : Type 0 where
   pub is-book : IsBook (ramp ∷ [])
   pub text : bookText (ramp ∷ []) ≡ rampText
   pub reply : replyToBook rampText leastList ≡ acceptedOf 1
-  -- the name stands at byte 2 and has 4 bytes; a list of 640 sevens keeps the other 630
-  pub list : listAfter rampText (replicate leastList 7) ≡ 2 ∷ 4 ∷ 5 ∷ 1 ∷ 30 ∷ 30000 ∷ 60 ∷ 600 ∷ 20000 ∷ 1 ∷ replicate 630 7
+  -- a list of 640 sevens keeps the other 630
+  pub list : listAfter rampText (replicate leastList 7) ≡ rampList ++ replicate 630 7
+  -- written back, the book has its 37 bytes again: a buffer of 40 sevens keeps the other three, and one of 36 is too short
+  pub writes : replyToList rampList rampText 40 ≡ replyBy 0 37
+  pub buffer : bufferAfter rampList rampText (replicate 40 7) ≡ rampText ++ replicate 3 7
+  pub short : replyToList rampList rampText 36 ≡ replyBy 33 0
   -- the card that the curve hands over is RAMP's
   pub hands : cardOf (ramp .numbers) ≡ card.ramp

@@ -21,13 +21,13 @@ unfoldable pub keyFrom : ℕ → List ℕ → ℕ → ℕ
 keyFrom zero text at = 0
 keyFrom (suc n) text at = keyFrom n text at * 256 + byteAt text (at + n)
 
--- the bytes of a name that stand at a place, at most eight, as one number: the key of the name
+-- the bytes of a name at a place, at most k of them and whatever stands after them: how many, and as one number, the key
+abbrev pub runAt : ℕ → List ℕ → ℕ → ReadName
+runAt k text at = record { size = nameRun k text at; key = keyFrom (nameRun k text at) text at }
+
+-- of at most eight bytes: the key of the name
 abbrev pub keyAt : List ℕ → ℕ → ℕ
 keyAt text at = keyFrom (nameRun 8 text at) text at
-
--- the bytes of a name at a place, whatever stands after them: how many, and their key
-abbrev pub runAt : List ℕ → ℕ → ReadName
-runAt text at = record { size = nameRun 8 text at; key = keyAt text at }
 
 -- the name at a place: its size, 0 where there is none, and its key
 abbrev pub readAt : List ℕ → ℕ → ReadName

@@ -7,10 +7,11 @@ use mathlib.Core.List.{List, [], _++_}
 use mathlib.Core.Bool.{cond}
 use lib.ListN.{length}
 use lib.Dec.{eqb}
+use Rattle.decimal.specs.Decimal.{Each}
 use Rattle.book.specs.Book.{mostCurves, mostBytes, leastList, replyToBook, listAfter}
 use Rattle.book.specs.LineMeaning.{Starts}
 use Rattle.book.specs.Meaning.{TextOfBook}
-use Rattle.book.specs.Printed.{Each, IsName, IsNumber, IsBody, Differs, NoTwins, numberText, contentsText, bodyText, linesText}
+use Rattle.book.specs.Printed.{IsName, IsNumber, IsBody, Differs, NoTwins, numberText, contentsText, bodyText, linesText}
 
 -- a right count line, `names` in right contents lines and `bodies` in right bodies stand before `rest`
 pub record Right (text : List ℕ) (n : ℕ) (names bodies : List (List ℕ)) (rest : List ℕ) : Type 0 where

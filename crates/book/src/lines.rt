@@ -46,7 +46,7 @@ fn read_heading(text: &[u8], at: usize, size: usize) -> Heading
 }
 
 // Whether a key is one of these.
-fn is_among(keys: &[u64], key: u64) -> bool
+pub(crate) fn is_among(keys: &[u64], key: u64) -> bool
     ensures { λ r. ⌜ r ≡ among (now (keys .entry)) key ⌝ }
 {
     let mut i: usize = 0;
@@ -87,7 +87,7 @@ pub(crate) fn contents_line(text: &[u8], keys: &[u64], name: ReadName, at: usize
 }
 
 // The byte after a number of a body, with `left` numbers after it.
-fn end_byte(left: u32) -> u8
+pub(crate) fn end_byte(left: u32) -> u8
     ensures { λ r. ⌜ r ≡ endOf left ⌝ }
 {
     if left == 0 { 10 } else { 32 }

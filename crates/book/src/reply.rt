@@ -2,6 +2,7 @@
 use crate::BookReply;
 use crate::MOST_BYTES;
 use crate::MOST_CURVES;
+use crate::PLACES;
 use crate::lines::Line;
 use crate::lines::contents_line;
 use crate::lines::curve;
@@ -16,9 +17,6 @@ ghost use lib.ListN.{length};
 ghost use lib.Seq.{sets};
 ghost use Rattle.book.specs.Book.{mostCurves, mostBytes, leastList, bodiesFrom, contentsFrom, textReply, refusedOf, afterHeadings, entriesFrom, entriesOf};
 ghost use Rattle.book.specs.Reading.{sizesAt, entriesBy};
-
-// Room for the place, the size and the key of each name.
-const PLACES: usize = 64;
 
 // A refused book: its number, count 0 and the line.
 pub(crate) fn refused(number: u32, line: u32) -> BookReply

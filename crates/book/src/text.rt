@@ -126,14 +126,14 @@ fn name_byte_at(text: &[u8], at: usize) -> bool
     false
 }
 
-// The bytes of a name from a place on, of at most eight.
-fn name_run(text: &[u8], from: usize) -> ReadName
-    requires { ⌜ from ≤ length (now text) ⌝ }
-    ensures { λ r. ⌜ r ≡ runAt (now (text .entry)) from ⌝ }
+// The bytes of a name from a place on, at most so many of them.
+pub(crate) fn name_run(text: &[u8], from: usize, most: usize) -> ReadName
+    requires { ⌜ (from ≤ length (now text)) × (most ≤ 8) ⌝ }
+    ensures { λ r. ⌜ r ≡ runAt most (now (text .entry)) from ⌝ }
 {
     let mut key: u64 = 0;
     let mut n: usize = 0;
-    while n < 8 {
+    while n < most {
         let more = name_byte_at(text, from + n);
         if !more {
             return ReadName { size: n, key };
@@ -150,7 +150,7 @@ pub(crate) fn read_name(text: &[u8], at: usize) -> ReadName
     requires { ⌜ at ≤ length (now text) ⌝ }
     ensures { λ r. ⌜ r ≡ readAt (now (text .entry)) at ⌝ }
 {
-    let run = name_run(text, at);
+    let run = name_run(text, at, 8);
     let n = run.size;
     let key = run.key;
     let b = byte_at(text, at + n);

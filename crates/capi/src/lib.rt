@@ -1,5 +1,6 @@
 // The calls for firmware in C: the library's own, with the card as its eight numbers and the reply as a number and counts.
 use book::read_book;
+use book::write_book;
 use card::least_length;
 use card_list::card_of_numbers;
 use day::fill_day_of_numbers;
@@ -17,6 +18,7 @@ ghost use Rattle.card_list.specs.List.{cardOf, cardsOf};
 ghost use Rattle.day.specs.Day.{dayReply, dayTable, dayReplies};
 ghost use Rattle.day.specs.Parts.{ClimbingDay};
 ghost use Rattle.book.specs.Book.{replyToBook, listAfter};
+ghost use Rattle.book.specs.Writing.{replyToList, bufferAfter};
 
 // The least length of a clothoid in metres, by the radius in metres; `looked` has how many listed radii were looked at, above 2000 all twenty.
 #[no_mangle]
@@ -94,5 +96,23 @@ pub extern "C" fn pippinterm_read_book(
     let at = reply.line;
     *count = curves;
     *line = at;
+    reply.number
+}
+
+// Writes the book of a list of curves, ten numbers each, whose names stand in the bytes of `names`: 0, and `count` has how many bytes; or the number of the refusal, 31 to 33, `count` has 0, and the buffer is as it was.
+#[no_mangle]
+pub extern "C" fn pippinterm_write_book(
+    list: &[u32],
+    names: &[u8],
+    buffer: &mut [u8],
+    count: &mut u32,
+) -> u32
+    ensures { λ r. ⌜ r ≡ replyToList (now (list .entry)) (now (names .entry)) (length (now (buffer .entry))) .number ⌝ }
+    ensures { λ _. ⌜ now (count .exit) ≡ replyToList (now (list .entry)) (now (names .entry)) (length (now (buffer .entry))) .count ⌝ }
+    ensures { λ _. ⌜ now (buffer .exit) ≡ bufferAfter (now (list .entry)) (now (names .entry)) (now (buffer .entry)) ⌝ }
+{
+    let reply = write_book(list, names, buffer);
+    let bytes = reply.count;
+    *count = bytes;
     reply.number
 }

@@ -1,4 +1,4 @@
--- Laws of a measured text, of a lent buffer after a text, and of a text stored part by part.
+-- Laws of a measured text, and of a lent buffer after a text.
 -- Assumes nothing.
 use Prim.Native.Nat.{ℕ, suc, _+_, _≤_, _<_}
 use mathlib.Core.Path.{_≡_, refl, sym, ap, _∙_}
@@ -10,10 +10,9 @@ use lib.ListN.{length, drop, set, getD, length-append, drop-of-length-le}
 use lib.Seq.{sets, sets-eq, drop-cons}
 use lib.Dec.{leb}
 use borrow.Author.Tests.{le-leb, lt-leb, leb-true, leb-false}
-use Rattle.book.proofs.Places.{cond-case}
-use Rattle.book.proofs.Stores.{sets-append}
+use Rattle.decimal.specs.Decimal.{countText}
+use Rattle.decimal.proofs.Choices.{cond-case}
 use Rattle.sheet_text.specs.declared.Written.{Written}
-use Rattle.sheet_text.specs.Decimal.{countText}
 use Rattle.sheet_text.specs.Buffer.{sized, writtenOf, bufferAfter, Measures}
 use Rattle.sheet_text.specs.Text.{endedText}
 
@@ -87,30 +86,6 @@ module _ (text buffer : List ℕ) {w : Written} (e : w ≡ writtenOf text (lengt
   pub answered-kept : w .fits ≡ false → Answered text buffer w buffer
   unfolding bufferAfter
   answered-kept t = (e, rw (lt-leb (length text) (length buffer) (over-of (length text) (length buffer) e t)))
-
--- one byte stored, and no byte left
-pub sets-turn : (bytes l : List ℕ) (at i : ℕ) → i < length bytes
-    → sets l (at + i) (drop i bytes) ≡ sets (set l (at + i) (getD bytes i 0)) (at + (i + 1)) (drop (i + 1) bytes)
-sets-turn bytes l at i h =
-    let p : at + suc i ≡ suc (at + i) = omega arith in
-    ap (sets l (at + i)) (drop-cons bytes i 0 h) ∙ rw (add-one i, p)
-
-pub sets-none : (bytes l : List ℕ) (at i : ℕ) → length bytes ≤ i → sets l (at + i) (drop i bytes) ≡ l
-sets-none bytes l at i h = ap (sets l (at + i)) (drop-of-length-le bytes h)
-
--- a text that starts with a part, stored: the part, and the rest behind it
-pub stores-next : (part rest l : List ℕ) (at : ℕ) {text stored : List ℕ} {place : ℕ}
-    → text ≡ part ++ rest → stored ≡ sets l at part → place ≡ at + length part → sets l at text ≡ sets stored place rest
-stores-next part rest l at e s p = ap (sets l at) e ∙ sets-append part rest l at ∙ rw (s, p)
-
--- a part stored from a place on, and the place after it
-abbrev pub Stored : List ℕ → ℕ → List ℕ → List ℕ → ℕ → Type 0
-Stored l at part m next = (next ≡ at + length part) × (m ≡ sets l at part)
-
-module _ (l : List ℕ) (at : ℕ) (xs : List ℕ) {m : List ℕ} {next : ℕ} (first : Stored l at xs m next) (ys : List ℕ) where
-  -- one part more behind it
-  pub then-bytes : {n : List ℕ} → n ≡ sets m next ys → n ≡ sets l at (xs ++ ys)
-  then-bytes e = e ∙ sym (stores-next xs ys l at refl (first .1) (first .0))
 
 -- how many bytes the end of a line has
 pub ended-length : (word : List ℕ) (v : ℕ) → length (endedText word v) ≡ length word + length (countText v) + 1

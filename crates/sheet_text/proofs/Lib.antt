@@ -1,5 +1,3 @@
-pub mod DecimalLaws
-pub mod ReadBack
 pub mod Buffers
 pub mod Parts
 pub mod RowTexts

@@ -9,7 +9,7 @@ use lib.ListN.{length, take, drop, length-drop, drop-of-length-le}
 use lib.Seq.{take-length, take-all, drop-length}
 use lib.Dec.{leb}
 use borrow.Author.Tests.{leb-true, leb-false}
-use Rattle.book.proofs.Places.{cond-case}
+use Rattle.decimal.proofs.Choices.{cond-case}
 
 -- a number cut to a length gives the same, where nothing changes past that length
 cut : (f : ℕ → List ℕ) (n len : ℕ) → (len ≤ n → f len ≡ f n) → f (min n len) ≡ f n

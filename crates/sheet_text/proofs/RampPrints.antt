@@ -6,15 +6,15 @@ use Prim.Native.Nat.{ℕ, zero, suc}
 use lib.Dec.{lit≤}
 use lib.IntN.{ℤ, pos, negsuc}
 use lib.ListN.{length, take, drop, replicate}
+use Rattle.decimal.specs.Decimal.{mostDigits, signedText}
+use Rattle.decimal.proofs.Digits.{digitsInto, digits-into}
 use Rattle.card.specs.Card as card
 use Rattle.runoff.specs.Rows.{rowWidth, rowCount, rows}
 use Rattle.runoff.proofs.StarredReadings.{readings}
 use Rattle.book.specs.Body.{endOf}
 use Rattle.book.specs.Book.{leastList}
 use Rattle.book.specs.RampBook.{ramp}
-use Rattle.book.proofs.Digits.{digitsInto, digits-into}
 use Rattle.book.proofs.RampReads.{ramp-book}
-use Rattle.sheet_text.specs.Decimal.{mostDigits, signedText}
 use Rattle.sheet_text.specs.Text.{rowText, rowsText, heldRows, endedText, blank, refusedWord, bookWord, lineWord, acceptedText, refusedText, refusedBookText}
 use Rattle.sheet_text.specs.Sheet.{cardSheet, curvesSheet, sheetOf}
 use Rattle.sheet_text.specs.RampSheet.{rampName, rampPrinted, RampSheet}

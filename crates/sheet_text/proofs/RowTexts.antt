@@ -12,12 +12,12 @@ use lib.Seq.{sets, drop-cons, drop-drop}
 use mir.Syntax.{w32}
 use mir.Val.{hbits, toZ, ofZ}
 use mir.Facts.{toZ-ofZ}
+use Rattle.decimal.specs.Decimal.{signedText}
+use Rattle.decimal.proofs.Stores.{stores-next}
 use Rattle.runoff.specs.Rows.{rowWidth}
 use Rattle.book.specs.Body.{endOf}
 use Rattle.book.proofs.LineLaws.{end-some}
-use Rattle.sheet_text.specs.Decimal.{signedText}
 use Rattle.sheet_text.specs.Text.{rowText, rowsText}
-use Rattle.sheet_text.proofs.Buffers.{stores-next}
 
 -- the number at a place of a row
 abbrev pub numberIn : List ℤ → ℕ → ℤ

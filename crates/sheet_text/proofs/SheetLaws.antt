@@ -7,11 +7,11 @@ use native.Mathlib.Omega.{arith}
 use lib.IntN.{ℤ, pos, negsuc}
 use lib.ListN.{length, take, drop, length-append}
 use lib.Seq.{take-at, drop-at, drop-drop}
+use Rattle.decimal.specs.Decimal.{mostDigits, signedText}
+use Rattle.decimal.proofs.Digits.{digits-most}
 use Rattle.card.specs.declared.Card.{Card}
 use Rattle.runoff.specs.Rows.{rowWidth}
 use Rattle.runoff.proofs.RowBlocks.{block, firstRows, length-block, first-none, first-more, length-first}
-use Rattle.book.proofs.Digits.{digits-most}
-use Rattle.sheet_text.specs.Decimal.{mostDigits, signedText}
 use Rattle.sheet_text.specs.Text.{rowText, rowsText, endedText}
 use Rattle.sheet_text.specs.Sheet.{rowLines}
 use Rattle.sheet_text.proofs.Buffers.{ended-length}

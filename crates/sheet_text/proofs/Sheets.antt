@@ -8,6 +8,9 @@ use lib.Dec.{eqb}
 use lib.IntN.{ℤ}
 use lib.ListN.{length, drop, length-append}
 use borrow.Author.Tests.{eqb-true, eqb-false, ne-eqb}
+use Rattle.decimal.specs.Decimal.{mostDigits}
+use Rattle.decimal.proofs.Choices.{cond-case}
+use Rattle.decimal.proofs.Digits.{digits-most}
 use Rattle.card.specs.declared.Card.{Card}
 use Rattle.runoff.specs.Rows.{rowCount, rowWidth, rows}
 use Rattle.runoff.specs.Refusal.{refusal}
@@ -18,12 +21,9 @@ use Rattle.runoff.proofs.RowBlocks.{all-rows, length-rows}
 use Rattle.book.specs.declared.BookReply.{BookReply}
 use Rattle.book.specs.Book.{leastList, replyToBook, listAfter}
 use Rattle.book.specs.Printed.{Curve, IsName, IsBook, bookText}
-use Rattle.book.proofs.Places.{cond-case}
 use Rattle.book.proofs.BookMeaning.{meaning}
 use Rattle.book.proofs.BookReasons.{reasons}
 use Rattle.book.proofs.HandedCards.{handed-cards, own-part}
-use Rattle.book.proofs.Digits.{digits-most}
-use Rattle.sheet_text.specs.Decimal.{mostDigits}
 use Rattle.sheet_text.specs.Text.{blank, refusedWord, lineWord, heldRows, endedText, acceptedText, refusedText, refusedBookText, curveText, bookLine}
 use Rattle.sheet_text.specs.Sheet.{rowLines, cardSheet, curveSheet, curvesSheet, enoughNumbers, enoughBytes, partOf, partsOf, sheetOf, SheetTheorem}
 use Rattle.sheet_text.proofs.SheetLaws.{lines-there, ended-short, lines-short}

@@ -1,4 +1,3 @@
-pub mod Decimal
 pub mod Buffer
 pub mod Text
 pub mod Sheet

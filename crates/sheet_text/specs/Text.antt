@@ -7,11 +7,11 @@ use mathlib.Core.List.{List, [], _∷_, _++_}
 use lib.Dec.{eqb}
 use lib.IntN.{ℤ}
 use lib.ListN.{length, take, drop}
+use Rattle.decimal.specs.Decimal.{countText, signedText}
 use Rattle.card.specs.declared.Reply.{Reply}
 use Rattle.runoff.specs.Rows.{rowWidth}
 use Rattle.book.specs.declared.BookReply.{BookReply}
 use Rattle.book.specs.Body.{endOf}
-use Rattle.sheet_text.specs.Decimal.{countText, signedText}
 
 -- the numbers of a row: one blank (byte 32) between two, byte 10 after the last
 unfoldable pub rowText : List ℤ → List ℕ

@@ -1,24 +1,23 @@
 // The text of a sheet: of a curve, of a refused card and of a refused book, written into a lent buffer of bytes.
-mod decimal;
 mod line;
 mod rows;
 
 ghost use Rattle.card_list.specs.List.{nameIn};
-use crate::decimal::digit_count;
-use crate::decimal::write_count;
 use crate::line::ended_size;
 use crate::line::more_bytes;
-use crate::line::write_bytes;
 use crate::line::write_ended;
 use crate::rows::rows_size;
 use crate::rows::write_rows;
 use book::BookReply;
 use card::Reply;
+use decimal::digit_count;
+use decimal::put_bytes;
+use decimal::put_count;
 use runoff::ROW_WIDTH;
 ghost use mathlib.Core.Path.{_≡_};
 ghost use Prim.Native.Nat.{ℕ, min, _+_, _≤_};
 ghost use lib.ListN.{length};
-ghost use Rattle.sheet_text.specs.Decimal.{countText};
+ghost use Rattle.decimal.specs.Decimal.{countText};
 ghost use Rattle.sheet_text.specs.Buffer.{sized, writtenOf, bufferAfter};
 ghost use Rattle.sheet_text.specs.Text.{acceptedText, refusedText, curveText, bookLine};
 
@@ -99,7 +98,7 @@ fn accepted_text(name: &[u8], count: u32, table: &[i32], buffer: &mut [u8]) -> W
     let written = rows_size(table, rows, heading, room);
     let fits = written.fits;
     if fits {
-        let after_name = write_bytes(name, buffer, 0);
+        let after_name = put_bytes(name, buffer, 0);
         let after_heading = write_ended(b" ", count, buffer, after_name);
         write_rows(table, rows, buffer, after_heading);
     }
@@ -114,7 +113,7 @@ fn refused_text(name: &[u8], number: u32, buffer: &mut [u8]) -> Written
     let written = heading_size(name.len(), 9, number, buffer.len());
     let fits = written.fits;
     if fits {
-        let after_name = write_bytes(name, buffer, 0);
+        let after_name = put_bytes(name, buffer, 0);
         write_ended(b" refused ", number, buffer, after_name);
     }
     written
@@ -133,8 +132,8 @@ pub fn book_text(reply: BookReply, buffer: &mut [u8]) -> Written
     let written = heading_size(5 + digit_count(number), 6, line, buffer.len());
     let fits = written.fits;
     if fits {
-        let after_word = write_bytes(b"book ", buffer, 0);
-        let after_number = write_count(number, buffer, after_word);
+        let after_word = put_bytes(b"book ", buffer, 0);
+        let after_number = put_count(number, buffer, after_word);
         write_ended(b" line ", line, buffer, after_number);
     }
     written

@@ -1,12 +1,13 @@
-// Parts of a line: how many bytes a text has with one part more, bytes as they are, and a line's end.
+// Parts of a line: how many bytes a text has with one part more, and a line's end.
 use crate::Written;
-use crate::decimal::digit_count;
-use crate::decimal::write_count;
+use decimal::digit_count;
+use decimal::put_bytes;
+use decimal::put_ended;
 ghost use mathlib.Core.Path.{_≡_};
 ghost use Prim.Native.Nat.{_+_, _≤_};
 ghost use lib.ListN.{length};
 ghost use lib.Seq.{sets};
-ghost use Rattle.sheet_text.specs.Decimal.{countText};
+ghost use Rattle.decimal.specs.Decimal.{countText};
 ghost use Rattle.sheet_text.specs.Buffer.{Measures};
 ghost use Rattle.sheet_text.specs.Text.{endedText};
 
@@ -38,28 +39,12 @@ pub(crate) fn ended_size(word: usize, v: u32) -> usize
     word + digit_count(v) + 1
 }
 
-// Writes bytes from a place on, and returns the place after them.
-pub(crate) fn write_bytes(bytes: &[u8], buffer: &mut [u8], at: usize) -> usize
-    requires { ⌜ at + length (now bytes) ≤ length (now buffer) ⌝ }
-    ensures { λ r. ⌜ r ≡ at + length (now (bytes .entry)) ⌝ }
-    ensures { λ _. ⌜ now (buffer .exit) ≡ sets (now (buffer .entry)) at (now (bytes .entry)) ⌝ }
-{
-    let mut i: usize = 0;
-    while i < bytes.len() {
-        buffer[at + i] = bytes[i];
-        i += 1;
-    }
-    at + i
-}
-
 // Writes the end of a line from a place on, a word, a count and byte 10, and returns the place after it.
 pub(crate) fn write_ended(word: &[u8], v: u32, buffer: &mut [u8], at: usize) -> usize
     requires { ⌜ at + length (endedText (now word) v) ≤ length (now buffer) ⌝ }
     ensures { λ r. ⌜ r ≡ at + length (endedText (now (word .entry)) v) ⌝ }
     ensures { λ _. ⌜ now (buffer .exit) ≡ sets (now (buffer .entry)) at (endedText (now (word .entry)) v) ⌝ }
 {
-    let after_word = write_bytes(word, buffer, at);
-    let end = write_count(v, buffer, after_word);
-    buffer[end] = b'\n';
-    end + 1
+    let after_word = put_bytes(word, buffer, at);
+    put_ended(v, b'\n', buffer, after_word)
 }

@@ -1,8 +1,8 @@
 // The lines of a table's rows.
 use crate::Written;
-use crate::decimal::signed_size;
-use crate::decimal::write_signed;
 use crate::line::more_bytes;
+use decimal::put_signed;
+use decimal::signed_size;
 use runoff::ROW_WIDTH;
 ghost use mathlib.Core.Path.{_≡_};
 ghost use Prim.Native.Nat.{_+_, _*_, _≤_};
@@ -35,7 +35,7 @@ fn write_row(row: &[i32], buffer: &mut [u8], at: usize) -> usize
     let mut place = at;
     let mut i: usize = 0;
     while i < row.len() {
-        place = write_signed(row[i], buffer, place);
+        place = put_signed(row[i], buffer, place);
         i += 1;
         buffer[place] = if i == row.len() { b'\n' } else { b' ' };
         place += 1;

@@ -6,10 +6,12 @@ use mathlib.Core.List.{List, _++_}
 use native.Mathlib.Omega.{arith}
 use lib.ListN.{length, length-append}
 use borrow.Author.Needs.{needs}
+use Rattle.decimal.proofs.Stores.{Stored, then-bytes}
+use Rattle.decimal.proofs.Puts.{stored-puts}
 use Rattle.runoff.specs.Rows.{rowWidth}
 use Rattle.sheet_text.specs.Buffer.{sized, writtenOf}
 use Rattle.sheet_text.specs.Text.{rowsText, heldRows, endedText, blank, acceptedText}
-use Rattle.sheet_text.proofs.Buffers.{sized-in, fits-of, answered-stored, answered-kept, then-bytes, ended-length}
+use Rattle.sheet_text.proofs.Buffers.{sized-in, fits-of, answered-stored, answered-kept, ended-length}
 use Rattle.sheet_text.proofs.accepted_text.Statement.{statement}
 use Rattle.sheet_text.proofs.accepted_text.Tie as tie
 
@@ -57,26 +59,35 @@ heading-size-requires c κs = search needs
 rows-size-requires : tie.Need-rows-size-requires
 rows-size-requires c κs = (rows-in (c .before), rw (c .heading-size .ensures) (sized-in _ _))
 
-write-bytes-requires : tie.Need-write-bytes-requires
-write-bytes-requires c κs = omega (arith, room (c .before), text-length (c .before .before .before .before .before .before .before))
+put-bytes-requires : tie.Need-put-bytes-requires
+put-bytes-requires c κs = search needs
+
+-- the name is stored
+named : (c : tie.After-put-bytes)
+    → let s = c .before .before .before .before .before .before .before .before in
+    Stored (buffer s) 0 (s .args .name .now) (c .put-bytes .last .1 .0) (c .put-bytes .result)
+named c =
+    let t = c .before .before in
+    let s = t .before .before .before .before .before .before in
+    stored-puts 0 (s .args .name .now) (buffer s) (omega (arith, room t, text-length s)) (c .put-bytes .ensures)
 
 slice-aggregate-write-ended : tie.Need-slice-aggregate-write-ended
 slice-aggregate-write-ended c = search needs
 
 write-ended-requires : tie.Need-write-ended-requires
 write-ended-requires c κs =
-    let n = c .before .before .before .before .write-bytes in
-    let t = c .before .before .before .before .before .before in
-    omega (arith, room t, text-length (t .before .before .before .before .before .before), n .ensures .0, n .kept .1 .0)
+    let n = c .before .before .before .before in
+    let t = n .before .before in
+    omega (arith, room t, text-length (t .before .before .before .before .before .before), named n .0, n .put-bytes .kept .1 .0)
 
 write-rows-requires : tie.Need-write-rows-requires
 write-rows-requires c κs =
     let e = c .before .before .before .write-ended in
-    let n = c .before .before .before .before .before .before .before .before .write-bytes in
-    let t = c .before .before .before .before .before .before .before .before .before .before in
+    let n = c .before .before .before .before .before .before .before .before in
+    let t = n .before .before in
     let l = t .before .before .before in (
       rows-in l,
-      omega (arith, room t, text-length (l .before .before .before), ap length (held l), e .ensures .0, e .kept .1 .1 .0, n .ensures .0, n .kept .1 .0),
+      omega (arith, room t, text-length (l .before .before .before), ap length (held l), e .ensures .0, e .kept .1 .1 .0, named n .0, n .put-bytes .kept .1 .0),
     )
 
 same-length : tie.Need-same-length
@@ -86,14 +97,14 @@ returns : tie.Need-returns
 unfolding acceptedText
 returns c =
     let e = c .before .before .before .before .before .before .write-ended in
-    let n = c .before .before .before .before .before .before .before .before .before .before .before .write-bytes in
-    let t = c .before .before .before .before .before .before .before .before .before .before .before .before .before in
+    let n = c .before .before .before .before .before .before .before .before .before .before .before in
+    let t = n .before .before in
     let l = t .before .before .before in
     let s = l .before .before .before in
     let ended = endedText blank (s .args .count) in
     answered-stored (text s) (buffer s) (measured (t .before)) (t .if1 .taken)
-    (then-bytes (buffer s) 0 (s .args .name .now) (n .ensures) (ended ++ rows s)
-    (then-bytes (n .last .1 .0) (n .result) ended (e .ensures) (rows s) (rw (held l) at (c .before .before .write-rows .ensures))))
+    (then-bytes (buffer s) 0 (s .args .name .now) (named n) (ended ++ rows s)
+    (then-bytes (n .put-bytes .last .1 .0) (n .put-bytes .result) ended (e .ensures) (rows s) (rw (held l) at (c .before .before .write-rows .ensures))))
 
 returns-2 : tie.Need-returns-2
 returns-2 c =
@@ -107,7 +118,7 @@ accepted-text-spec =
     smaller-requires
     heading-size-requires
     rows-size-requires
-    write-bytes-requires
+    put-bytes-requires
     slice-aggregate-write-ended
     write-ended-requires
     write-rows-requires

@@ -7,11 +7,13 @@ use native.Mathlib.Omega.{arith}
 use lib.ListN.{length, length-append}
 use borrow.Author.Needs.{needs}
 use borrow.Author.Tests.{eq-eqb, ne-eqb}
+use Rattle.decimal.specs.Decimal.{countText}
+use Rattle.decimal.proofs.Stores.{Stored, then-bytes}
+use Rattle.decimal.proofs.Puts.{stored-puts}
 use Rattle.sheet_text.specs.declared.Written.{Written}
-use Rattle.sheet_text.specs.Decimal.{countText}
 use Rattle.sheet_text.specs.Buffer.{sized, writtenOf}
 use Rattle.sheet_text.specs.Text.{endedText, bookWord, lineWord, refusedBookText}
-use Rattle.sheet_text.proofs.Buffers.{sized-fits, fits-of, answered-stored, answered-kept, then-bytes, ended-length}
+use Rattle.sheet_text.proofs.Buffers.{sized-fits, fits-of, answered-stored, answered-kept, ended-length}
 use Rattle.sheet_text.proofs.book_text.Statement.{statement}
 use Rattle.sheet_text.proofs.book_text.Tie as tie
 
@@ -60,29 +62,43 @@ add-heading-size c = search needs
 heading-size-requires : tie.Need-heading-size-requires
 heading-size-requires c κs = search needs
 
-slice-aggregate-write-bytes : tie.Need-slice-aggregate-write-bytes
-slice-aggregate-write-bytes c = search needs
+slice-aggregate-put-bytes : tie.Need-slice-aggregate-put-bytes
+slice-aggregate-put-bytes c = search needs
 
-write-bytes-requires : tie.Need-write-bytes-requires
-write-bytes-requires c κs =
-    let t = c .before .before in
-    omega (arith, room t, text-length (t .before .before .before .before .before))
+put-bytes-requires : tie.Need-put-bytes-requires
+put-bytes-requires c κs = search needs
 
-write-count-requires : tie.Need-write-count-requires
-write-count-requires c κs =
-    let b = c .before .before .before .write-bytes in
-    let t = c .before .before .before .before .before .before in
-    omega (arith, room t, text-length (t .before .before .before .before .before), b .ensures .0, b .kept .1 .0)
+-- the word is stored, and then the number
+worded : (c : tie.After-put-bytes)
+    → let s = c .before .before .before .before .before .before .before .before in Stored (buffer s) 0 bookWord (c .put-bytes .last .1 .0) (c .put-bytes .result)
+worded c =
+    let t = c .before .before .before in
+    let s = t .before .before .before .before .before in
+    stored-puts 0 bookWord (buffer s) (omega (arith, room t, text-length s)) (c .put-bytes .ensures)
+
+put-count-requires : tie.Need-put-count-requires
+put-count-requires c κs = search needs
+
+numbered : (c : tie.After-put-count)
+    → let b = c .before .before .before .before in
+    let s = b .before .before .before .before .before .before .before .before in
+    Stored (b .put-bytes .last .1 .0) (b .put-bytes .result) (countText (s .args .reply .number)) (c .put-count .last .1 .0) (c .put-count .result)
+numbered c =
+    let b = c .before .before .before .before in
+    let t = b .before .before .before in
+    let s = t .before .before .before .before .before in
+    stored-puts (b .put-bytes .result) (countText (s .args .reply .number)) (b .put-bytes .last .1 .0)
+    (omega (arith, room t, text-length s, worded b .0, b .put-bytes .kept .1 .0)) (c .put-count .ensures)
 
 slice-aggregate-write-ended : tie.Need-slice-aggregate-write-ended
 slice-aggregate-write-ended c = search needs
 
 write-ended-requires : tie.Need-write-ended-requires
 write-ended-requires c κs =
-    let n = c .before .before .before .before .write-count in
-    let b = c .before .before .before .before .before .before .before .before .write-bytes in
-    let t = c .before .before .before .before .before .before .before .before .before .before .before in
-    omega (arith, room t, text-length (t .before .before .before .before .before), n .ensures .0, n .kept .1 .0, b .ensures .0, b .kept .1 .0)
+    let n = c .before .before .before .before in
+    let b = n .before .before .before .before in
+    let t = b .before .before .before in
+    omega (arith, room t, text-length (t .before .before .before .before .before), numbered n .0, n .put-count .kept .1 .0, worded b .0, b .put-bytes .kept .1 .0)
 
 same-length : tie.Need-same-length
 same-length c = search needs
@@ -90,16 +106,16 @@ same-length c = search needs
 returns-2 : tie.Need-returns-2
 unfolding refusedBookText
 returns-2 c =
-    let n = c .before .before .before .before .before .before .before .write-count in
-    let b = c .before .before .before .before .before .before .before .before .before .before .before .write-bytes in
-    let t = c .before .before .before .before .before .before .before .before .before .before .before .before .before .before in
+    let n = c .before .before .before .before .before .before .before in
+    let b = n .before .before .before .before in
+    let t = b .before .before .before in
     let s = t .before .before .before .before .before in
     let number = countText (s .args .reply .number) in
     let ended = endedText lineWord (s .args .reply .line) in
     rw (ne-eqb (s .args .reply .number) 0 (t .before .before .before .if1 .left))
     (answered-stored (text s) (buffer s) (measured (t .before)) (t .if2 .taken)
-    (then-bytes (buffer s) 0 bookWord (b .ensures) (number ++ ended)
-    (then-bytes (b .last .1 .0) (b .result) number (n .ensures) ended (c .before .before .write-ended .ensures .1))))
+    (then-bytes (buffer s) 0 bookWord (worded b) (number ++ ended)
+    (then-bytes (b .put-bytes .last .1 .0) (b .put-bytes .result) number (numbered n) ended (c .before .before .write-ended .ensures .1))))
 
 returns-3 : tie.Need-returns-3
 returns-3 c =
@@ -116,9 +132,9 @@ book-text-spec =
     digit-count-requires
     add-heading-size
     heading-size-requires
-    slice-aggregate-write-bytes
-    write-bytes-requires
-    write-count-requires
+    slice-aggregate-put-bytes
+    put-bytes-requires
+    put-count-requires
     slice-aggregate-write-ended
     write-ended-requires
     same-length

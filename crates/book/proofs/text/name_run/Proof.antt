@@ -2,7 +2,7 @@
 -- Assumes nothing.
 use native.Mathlib.Omega.{arith}
 use Prim.Native.Nat.{ℕ, _+_, _-_, _^_, _≤_, _<_}
-use mathlib.Core.Path.{_≡_, refl, sym, ap, _∙_}
+use mathlib.Core.Path.{_≡_, refl, sym, ap, ap₂, _∙_}
 use mathlib.Core.Bool.{true}
 use mathlib.Core.List.{List}
 use lib.ListN.{length}
@@ -20,25 +20,26 @@ use Rattle.book.proofs.text.name_run.Statement.{statement}
 use Rattle.book.proofs.text.name_run.Tie as tie
 
 abbrev Inv-loop : tie.InvT-loop
-Inv-loop text from key₀ n₀ key n =
-    (n ≤ 8)
+Inv-loop text from most key₀ n₀ key n =
+    (n ≤ most)
     × ((from + n ≤ length text)
     × ((key < 256 ^ n)
-    × ((key ≡ keyFrom n text from) × (nameRun 8 text from ≡ n + nameRun (8 - n) text (from + n)))))
+    × ((key ≡ keyFrom n text from) × (nameRun most text from ≡ n + nameRun (most - n) text (from + n)))))
 
 abbrev μ-loop : tie.MeasureT-loop
-μ-loop text from key₀ n₀ key n = 8 - n
+μ-loop text from most key₀ n₀ key n = most - n
 
 loop-holds : tie.Need-loop-holds Inv-loop μ-loop
 unfolding keyFrom
 loop-holds c =
     let a = c .before .args in
     let z : a .from + 0 ≡ a .from = omega arith in
-    (search needs, (search needs, (search needs, (refl, omega (arith, ap (nameRun 8 (a .text .now)) z)))))
+    let w : a .most - 0 ≡ a .most = omega arith in
+    (search needs, (search needs, (search needs, (refl, omega (arith, ap₂ (λ (k p : ℕ). nameRun k (a .text .now) p) w z)))))
 
 -- what was run through, where all of it was
-run-is : (text : List ℕ) (from : ℕ) {n key : ℕ} → n ≡ nameRun 8 text from → key ≡ keyFrom n text from → _≡_ {A = ReadName} (record { size = n; key = key }) (runAt text from)
-run-is text from all e = λ i. record { size = all i; key = (e ∙ ap (λ (k : ℕ). keyFrom k text from) all) i }
+run-is : (most : ℕ) (text : List ℕ) (from : ℕ) {n key : ℕ} → n ≡ nameRun most text from → key ≡ keyFrom n text from → _≡_ {A = ReadName} (record { size = n; key = key }) (runAt most text from)
+run-is most text from all e = λ i. record { size = all i; key = (e ∙ ap (λ (k : ℕ). keyFrom k text from) all) i }
 
 add-name-byte-at : tie.Need-add-name-byte-at Inv-loop μ-loop
 add-name-byte-at c = search needs
@@ -50,9 +51,9 @@ returns : tie.Need-returns Inv-loop μ-loop
 returns c =
     let a = c .before .before .before .before .before .args in
     let l = c .before .before .before .loop in
-    let all : l .n ≡ nameRun 8 (a .text .now) (a .from) =
-    omega (arith, run-stop (a .text .now) (8 - l .n) (a .from + l .n) (sym (c .before .name-byte-at .ensures) ∙ not-true _ (c .if1 .taken))) in
-    run-is (a .text .now) (a .from) all (l .inv .1 .1 .1 .0)
+    let all : l .n ≡ nameRun (a .most) (a .text .now) (a .from) =
+    omega (arith, run-stop (a .text .now) (a .most - l .n) (a .from + l .n) (sym (c .before .name-byte-at .ensures) ∙ not-true _ (c .if1 .taken))) in
+    run-is (a .most) (a .text .now) (a .from) all (l .inv .1 .1 .1 .0)
 
 add-byte-at : tie.Need-add-byte-at Inv-loop μ-loop
 add-byte-at c = search needs
@@ -88,7 +89,7 @@ loop-again c =
           base-more (l .n) (l .key) _ (l .inv .1 .1 .0) (omega arith),
           (
             omega (arith, key-more s (l .n) (a .from)),
-            l .inv .1 .1 .1 .1 ∙ run-turn s (a .from) (l .n) (c .before .before .before .loop-test .taken) t,
+            l .inv .1 .1 .1 .1 ∙ run-turn s (a .most) (a .from) (l .n) (c .before .before .before .loop-test .taken) t,
           ),
         ),
       ),
@@ -98,10 +99,10 @@ returns-2 : tie.Need-returns-2 Inv-loop μ-loop
 returns-2 c =
     let a = c .before .before .before .args in
     let l = c .before .loop in
-    let z : 8 - l .n ≡ 0 = omega arith in
-    let all : l .n ≡ nameRun 8 (a .text .now) (a .from) =
+    let z : a .most - l .n ≡ 0 = omega arith in
+    let all : l .n ≡ nameRun (a .most) (a .text .now) (a .from) =
     omega (arith, ap (λ (k : ℕ). nameRun k (a .text .now) (a .from + l .n)) z, run-none (a .text .now) (a .from + l .n)) in
-    run-is (a .text .now) (a .from) all (l .inv .1 .1 .1 .0)
+    run-is (a .most) (a .text .now) (a .from) all (l .inv .1 .1 .1 .0)
 
 pub name-run-spec : {M : Type 1} → statement M
 name-run-spec =

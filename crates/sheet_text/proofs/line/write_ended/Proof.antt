@@ -1,71 +1,63 @@
 -- `sheet_text::line::write_ended` meets its contract.
 -- Assumes nothing.
-use Prim.Native.Nat.{_+_}
-use mathlib.Core.Path.{_≡_, refl, _∙_}
-use mathlib.Core.List.{[], _∷_, _++_}
+use Prim.Native.Nat.{ℕ, _+_}
+use mathlib.Core.Path.{_≡_, _∙_}
+use mathlib.Core.List.{List, [], _∷_, _++_}
 use native.Mathlib.Omega.{arith}
-use lib.ListN.{length, length-set}
-use Rattle.sheet_text.specs.Decimal.{countText}
+use borrow.Author.Needs.{needs}
+use lib.ListN.{length, length-append}
+use Rattle.decimal.specs.Decimal.{countText}
+use Rattle.decimal.proofs.Stores.{Stored, then-bytes}
+use Rattle.decimal.proofs.Puts.{stored-puts}
 use Rattle.sheet_text.specs.Text.{endedText}
-use Rattle.sheet_text.proofs.Buffers.{then-bytes, ended-length}
 use Rattle.sheet_text.proofs.line.write_ended.Statement.{statement}
 use Rattle.sheet_text.proofs.line.write_ended.Tie as tie
 
-abbrev start : tie.After-slice-known3 → tie.Start
-start c = c .before .before .before .before .before .before .before .before .before .before
+-- the count, and the end of the line
+abbrev ended : tie.Start → List ℕ
+ended s = countText (s .args .v) ++ (10 ∷ [])
 
-write-bytes-requires : tie.Need-write-bytes-requires
-write-bytes-requires c κs =
-    let a = c .before .before .before .args in
-    omega (arith, ended-length (a .word .now) (a .v))
+text-length : (s : tie.Start) → length (endedText (s .args .word .now) (s .args .v)) ≡ length (s .args .word .now) + length (ended s)
+unfolding endedText
+text-length s = length-append (s .args .word .now) (ended s)
 
-write-count-requires : tie.Need-write-count-requires
-write-count-requires c κs =
-    let s = c .before .before .before .before .before .before .before in
-    let w = c .before .before .before .write-bytes in
-    omega (arith, s .pre, w .ensures .0, w .kept .1 .0, ended-length (s .args .word .now) (s .args .v))
+put-bytes-requires : tie.Need-put-bytes-requires
+put-bytes-requires c κs = search needs
 
--- the place after the line
-line-end : (c : tie.After-slice-known3)
-    → c .before .before .write-count .result + 1
-    ≡ start c .args .at + length (endedText (start c .args .word .now) (start c .args .v))
-line-end c =
-    let w = c .before .before .before .before .before .before .write-bytes in
-    omega (arith, w .ensures .0, c .before .before .write-count .ensures .0, ended-length (start c .args .word .now) (start c .args .v))
+-- the word is stored, and then the rest
+worded : (c : tie.After-put-bytes)
+    → let s = c .before .before .before .before in
+    Stored (s .args .buffer .now) (s .args .at) (s .args .word .now) (c .put-bytes .last .1 .0) (c .put-bytes .result)
+worded c =
+    let s = c .before .before .before .before in
+    stored-puts (s .args .at) (s .args .word .now) (s .args .buffer .now) (omega (arith, s .pre, text-length s)) (c .put-bytes .ensures)
 
-slice-write-buffer : tie.Need-slice-write-buffer
-slice-write-buffer c =
-    let w = c .before .before .before .before .before .before .write-bytes in
-    omega (arith, line-end c, start c .pre, w .kept .1 .0, c .before .before .write-count .kept .1 .0)
+put-ended-requires : tie.Need-put-ended-requires
+put-ended-requires c κs = search needs
 
-add-result : tie.Need-add-result
-add-result c = omega (arith, line-end c, start c .pre, start c .good .1 .1 .0 .0)
+rest : (c : tie.After-put-ended)
+    → let w = c .before .before .before .before in
+    let s = w .before .before .before .before in
+    Stored (w .put-bytes .last .1 .0) (w .put-bytes .result) (ended s) (c .put-ended .last .1 .1 .0) (c .put-ended .result)
+rest c =
+    let w = c .before .before .before .before in
+    let s = w .before .before .before .before in
+    stored-puts (w .put-bytes .result) (ended s) (w .put-bytes .last .1 .0)
+    (omega (arith, s .pre, text-length s, worded w .0, w .put-bytes .kept .1 .0)) (c .put-ended .ensures)
 
 same-length : tie.Need-same-length
-same-length c =
-    let w = c .before .before .before .before .before .before .write-bytes in
-    let n = c .before .before .write-count in
-    length-set (n .last .1 .0) (n .result) 10 ∙ n .kept .1 .0 ∙ w .kept .1 .0
+same-length c = search needs
 
 returns : tie.Need-returns
 unfolding endedText
 returns c =
-    let a = start c .args in
-    let w = c .before .before .before .before .before .before .write-bytes in
-    let n = c .before .before .write-count in
-    let text = countText (a .v) in (
-      line-end c,
-      then-bytes (a .buffer .now) (a .at) (a .word .now) (w .ensures) (text ++ (10 ∷ []))
-          (then-bytes (w .last .1 .0) (w .result) text (n .ensures) (10 ∷ []) refl),
+    let r = c .before .before in
+    let w = r .before .before .before .before in
+    let s = w .before .before .before .before in (
+      omega (arith, text-length s, worded w .0, rest r .0),
+      then-bytes (s .args .buffer .now) (s .args .at) (s .args .word .now) (worded w) (ended s) (rest r .1),
     )
 
 pub write-ended-spec : {M : Type 1} → statement M
 write-ended-spec =
-    tie.close
-    (tie.spec
-    write-bytes-requires
-    write-count-requires
-    slice-write-buffer
-    add-result
-    same-length
-    returns)
+    tie.close (tie.spec put-bytes-requires put-ended-requires same-length returns)

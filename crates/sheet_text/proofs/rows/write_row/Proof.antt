@@ -8,8 +8,11 @@ use mathlib.Core.Path.{_≡_, refl, sym, ap, _∙_}
 use lib.IntN.{ℤ}
 use lib.ListN.{length, drop, length-set}
 use lib.Seq.{sets}
+use borrow.Author.Needs.{needs}
+use Rattle.decimal.specs.Decimal.{signedText}
+use Rattle.decimal.proofs.Stores.{Stored}
+use Rattle.decimal.proofs.Puts.{stored-puts}
 use Rattle.book.specs.Body.{endOf}
-use Rattle.sheet_text.specs.Decimal.{signedText}
 use Rattle.sheet_text.specs.Text.{rowText}
 use Rattle.sheet_text.proofs.RowTexts.{readIn, row-none, end-last, end-other, row-size-turn, row-stores-turn}
 use Rattle.sheet_text.proofs.rows.write_row.Statement.{statement}
@@ -25,7 +28,7 @@ Inv-loop row buffer₀ at place₀ i₀ buffer place i =
 abbrev μ-loop : tie.MeasureT-loop
 μ-loop row buffer₀ at place₀ i₀ buffer place i = length row - i
 
-module _ (w : tie.After-write-signed-arg2 Inv-loop μ-loop) where
+module _ (w : tie.After-put-signed-arg2 Inv-loop μ-loop) where
   abbrev row : List ℤ
   row = w .before .before .before .before .before .args .row .now
 
@@ -34,18 +37,25 @@ module _ (w : tie.After-write-signed-arg2 Inv-loop μ-loop) where
 
   -- the length of what is left: a number, the byte after it, and the rest
   turn : length (rowText (drop i row)) ≡ length (signedText (readIn row i)) + 1 + length (rowText (drop (i + 1) row))
-  turn = row-size-turn row i (w .before .before .loop-test .taken) (w .before .write-signed-arg .given)
+  turn = row-size-turn row i (w .before .before .loop-test .taken) (w .before .put-signed-arg .given)
 
 module _ (c : tie.Joined1 Inv-loop μ-loop) where
-  abbrev wrote : tie.After-write-signed Inv-loop μ-loop
+  abbrev wrote : tie.After-put-signed Inv-loop μ-loop
   wrote = c .before .before .before
 
   abbrev place : ℕ
-  place = wrote .write-signed .result
+  place = wrote .put-signed .result
+
+  -- the number is stored
+  stored : let l = wrote .before .before .before .before .loop in
+      Stored (l .buffer) (l .place) (signedText (readIn (row (wrote .before)) (i (wrote .before)))) (wrote .put-signed .last .1 .0) place
+  stored =
+      let l = wrote .before .before .before .before .loop in
+      stored-puts (l .place) (signedText (readIn (row (wrote .before)) (i (wrote .before)))) (l .buffer) (omega (arith, turn (wrote .before))) (wrote .put-signed .ensures)
 
   -- the byte after the number stands inside the buffer
-  room : place < length (wrote .write-signed .last .1 .0)
-  room = let p = wrote .write-signed in omega (arith, turn (wrote .before), p .ensures .0, p .kept .1 .0)
+  room : place < length (wrote .put-signed .last .1 .0)
+  room = let p = wrote .put-signed in omega (arith, turn (wrote .before), stored .0, p .kept .1 .0)
 
   end-is : c .if1 .buffer ≡ endOf (length (row (wrote .before)) - (i (wrote .before) + 1))
   end-is =
@@ -56,14 +66,14 @@ module _ (c : tie.Joined1 Inv-loop μ-loop) where
 loop-holds : tie.Need-loop-holds Inv-loop μ-loop
 loop-holds c = (omega arith, (refl, (refl, refl)))
 
-mul-write-signed : tie.Need-mul-write-signed Inv-loop μ-loop
-mul-write-signed c = omega arith
+mul-put-signed : tie.Need-mul-put-signed Inv-loop μ-loop
+mul-put-signed c = omega arith
 
-shared-slice-copy-out-write-signed : tie.Need-shared-slice-copy-out-write-signed Inv-loop μ-loop
-shared-slice-copy-out-write-signed c = omega arith
+shared-slice-copy-out-put-signed : tie.Need-shared-slice-copy-out-put-signed Inv-loop μ-loop
+shared-slice-copy-out-put-signed c = omega arith
 
-write-signed-requires : tie.Need-write-signed-requires Inv-loop μ-loop
-write-signed-requires c κs = omega (arith, turn c)
+put-signed-requires : tie.Need-put-signed-requires Inv-loop μ-loop
+put-signed-requires c κs = search needs
 
 add-i : tie.Need-add-i Inv-loop μ-loop
 add-i c = omega arith
@@ -81,12 +91,12 @@ loop-again : tie.Need-loop-again Inv-loop μ-loop
 loop-again c =
     let w = wrote c .before in
     let l = w .before .before .before .loop in
-    let p = wrote c .write-signed in
-    let stores = row-stores-turn (row w) (i w) (w .before .before .loop-test .taken) (w .before .write-signed-arg .given) (l .buffer) (l .place) (p .ensures .1) (p .ensures .0) (end-is c) in (
+    let p = wrote c .put-signed in
+    let stores = row-stores-turn (row w) (i w) (w .before .before .loop-test .taken) (w .before .put-signed-arg .given) (l .buffer) (l .place) (stored c .1) (stored c .0) (end-is c) in (
       omega arith,
       (
         length-set (p .last .1 .0) (p .result) (c .if1 .buffer) ∙ (p .kept .1 .0 ∙ l .inv .1 .0),
-        (omega (arith, turn w, p .ensures .0), l .inv .1 .1 .1 ∙ stores),
+        (omega (arith, turn w, stored c .0), l .inv .1 .1 .1 ∙ stores),
       ),
     )
 
@@ -106,9 +116,9 @@ write-row-spec =
     Inv-loop
     μ-loop
     loop-holds
-    mul-write-signed
-    shared-slice-copy-out-write-signed
-    write-signed-requires
+    mul-put-signed
+    shared-slice-copy-out-put-signed
+    put-signed-requires
     add-i
     slice-write-buffer
     add-place

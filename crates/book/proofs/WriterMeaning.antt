@@ -1,0 +1,389 @@
+-- What the definitions of the writer mean: WriterTheorem of specs/Written.antt.
+-- Assumes nothing.
+use Prim.Native.Nat.{ℕ, zero, suc, _+_, _-_, _*_, _%_, _≤_, _<_}
+use mathlib.Core.Logic.{_↔_}
+use mathlib.Core.Path.{_≡_, refl, sym, ap, ap₂, _∙_, subst}
+use mathlib.Core.Bool.{Bool, true, false, cond, not, _||_, true≢false}
+use mathlib.Core.List.{List, [], _∷_, _++_, append-assoc, append-nil}
+use native.Mathlib.Omega.{arith}
+use lib.ListN.{length, take, drop, length-append, length-drop}
+use lib.Seq.{take-append-seam, drop-append-seam, take-at, drop-at, length-take-le}
+use lib.Dec.{eqb}
+use borrow.Author.Tests.{ltb-false, le-ltb, eqb-true, eq-eqb, ne-eqb, not-false}
+use Rattle.decimal.specs.Decimal.{Each}
+use Rattle.card.specs.Words.{_below_, _above_, outside}
+use Rattle.card.specs.Table.{replyBy}
+use Rattle.card_list.specs.declared.NamePlace.{NamePlace}
+use Rattle.card_list.specs.List.{curveWidth, namePlaceIn}
+use Rattle.book.specs.Body.{cardNumbers}
+use Rattle.book.specs.Book.{mostCurves, leastList, acceptedOf, replyToBook, listAfter}
+use Rattle.book.specs.Printed.{Curve, IsName, IsNumber, IsBody, IsBook, Differs, NoTwins, numberText, contentsText, contentsTexts, namesOf, bodiesOf, bookText}
+use Rattle.book.specs.LineMeaning.{Stands}
+use Rattle.book.specs.Meaning.{entries, bookEntries, curveIn, curvesIn}
+use Rattle.book.specs.Writing.{curveCount, curvesOf, bodiesIn, notTens, isWrong, someWrong, sameName, isOneOf, hasTwins, hasLong, someLong, writerTests, writerNumber, replyToList, bufferAfter}
+use Rattle.book.specs.Written.{NameStands, RightList, WrongList, TwinList, SevenDigits, Unwritable, Fits, written, frontOf, WriterTheorem}
+use Rattle.book.specs.declared.BookReply.{BookReply}
+use Rattle.book.proofs.Standing.{stands-front, stands-back}
+use Rattle.book.proofs.BookText.{contents-stand, contentsPlace, bodiesPlace}
+use Rattle.book.proofs.BookMeaning.{meaning}
+use Rattle.book.proofs.WriterNames.{or-none, neither-met, not-met, right-stands, stands-right, same-is, same-self}
+use Rattle.book.proofs.WriterReplies.{tens-of, given, wrongList, twinned, tooLong, number-is, refused, reply-is, buffer-is}
+use Rattle.book.proofs.WriterLines.{place-next, wrong-at, curves-count, curves-bodies}
+
+-- ---- the first of three tests that is met
+given-first : (a b c : Bool) → given a b c ≡ 31 → a ≡ true
+given-first true b c e = refl
+given-first false true c e = absurd (omega arith)
+given-first false false true e = absurd (omega arith)
+given-first false false false e = absurd (omega arith)
+
+given-second : (a b c : Bool) → given a b c ≡ 32 → (a ≡ false) × (b ≡ true)
+given-second true b c e = absurd (omega arith)
+given-second false true c e = (refl, refl)
+given-second false false true e = absurd (omega arith)
+given-second false false false e = absurd (omega arith)
+
+given-third : (a b c : Bool) → given a b c ≡ 33 → (a ≡ false) × ((b ≡ false) × (c ≡ true))
+given-third true b c e = absurd (omega arith)
+given-third false true c e = absurd (omega arith)
+given-third false false true e = (refl, (refl, refl))
+given-third false false false e = absurd (omega arith)
+
+given-none : (a b c : Bool) → given a b c ≡ 0 → (a ≡ false) × ((b ≡ false) × (c ≡ false))
+given-none true b c e = absurd (omega arith)
+given-none false true c e = absurd (omega arith)
+given-none false false true e = absurd (omega arith)
+given-none false false false e = (refl, (refl, refl))
+
+-- ---- what the tests say
+-- and so is a list of so many
+of-tens : (size n : ℕ) → size ≡ curveWidth * n → 1 ≤ n → n ≤ mostCurves → (curveCount size ≡ n) × (notTens size ≡ false)
+of-tens size n e some few =
+    let count : curveCount size ≡ n = omega (arith, e) in
+    let whole : size % curveWidth ≡ 0 = omega (arith, e) in
+    let low : 1 ≤ curveCount size = omega (arith, count) in
+    let high : curveCount size ≤ mostCurves = omega (arith, count) in (
+      count,
+      neither-met (not (eqb (size % curveWidth) 0)) (outside (curveCount size) 1 mostCurves) (ap not (eq-eqb (size % curveWidth) 0 whole))
+          (neither-met (curveCount size below 1) (curveCount size above mostCurves) (le-ltb (curveCount size) 1 low) (le-ltb mostCurves (curveCount size) high)),
+    )
+
+wrong-all : (n : ℕ) (names list : List ℕ) → ((i : ℕ) → i < n → isWrong names (namePlaceIn list i) ≡ false) → someWrong n names list ≡ false
+unfolding someWrong
+wrong-all zero names list h = refl
+wrong-all (suc n) names list h =
+    neither-met _ _ (h 0 (omega arith))
+    (wrong-all n names (drop curveWidth list)
+    (λ i l. subst (λ (p : NamePlace). isWrong names p ≡ false) (sym (place-next list i)) (h (suc i) (omega arith))))
+
+-- no name among others
+none-of : (name : List ℕ) (names : List (List ℕ)) → isOneOf name names ≡ false → Each (Differs name) names
+unfolding isOneOf Each
+none-of name [] e = tt
+none-of name (other ∷ names) e =
+    let both = or-none _ _ e in
+    (λ s. true≢false (sym (same-self name) ∙ ap (sameName name) s ∙ both .0), none-of name names (both .1))
+
+of-none : (name : List ℕ) (names : List (List ℕ)) → Each (Differs name) names → isOneOf name names ≡ false
+unfolding isOneOf Each
+of-none name [] h = refl
+of-none name (other ∷ names) h =
+    neither-met _ _ (differ (sameName name other) (same-is name other)) (of-none name names (h .1))
+  where
+    differ : (b : Bool) → (b ≡ true → name ≡ other) → b ≡ false
+    differ true f = absurd (h .0 (f refl))
+    differ false f = refl
+
+no-twins : (names : List (List ℕ)) → hasTwins names ≡ false → NoTwins names
+unfolding hasTwins NoTwins
+no-twins [] e = tt
+no-twins (name ∷ names) e = let both = or-none _ _ e in (none-of name names (both .0), no-twins names (both .1))
+
+twins-none : (names : List (List ℕ)) → NoTwins names → hasTwins names ≡ false
+unfolding hasTwins NoTwins
+twins-none [] h = refl
+twins-none (name ∷ names) h = neither-met _ _ (of-none name names (h .0)) (twins-none names (h .1))
+
+-- numbers of at most seven digits
+no-long : (numbers : List ℕ) → hasLong numbers ≡ false → Each IsNumber numbers
+unfolding hasLong Each
+no-long [] e = tt
+no-long (v ∷ numbers) e = let both = or-none _ _ e in (omega (arith, ltb-false 9999999 v (both .0)), no-long numbers (both .1))
+
+long-none : (numbers : List ℕ) → Each IsNumber numbers → hasLong numbers ≡ false
+unfolding hasLong Each
+long-none [] h = refl
+long-none (v ∷ numbers) h = neither-met _ _ (le-ltb 9999999 v (omega (arith, h .0))) (long-none numbers (h .1))
+
+no-longs : (bodies : List (List ℕ)) → someLong bodies ≡ false → Each (Each IsNumber) bodies
+unfolding someLong Each
+no-longs [] e = tt
+no-longs (numbers ∷ bodies) e = let both = or-none _ _ e in (no-long numbers (both .0), no-longs bodies (both .1))
+
+longs-none : (bodies : List (List ℕ)) → Each (Each IsNumber) bodies → someLong bodies ≡ false
+unfolding someLong Each
+longs-none [] h = refl
+longs-none (numbers ∷ bodies) h = neither-met _ _ (long-none numbers (h .0)) (longs-none bodies (h .1))
+
+-- ---- the names and the bodies of a list that is not wrong
+names-known : (n : ℕ) (names list : List ℕ) → someWrong n names list ≡ false → Each IsName (namesOf (curvesIn n names list))
+unfolding someWrong curvesIn curveIn Each
+names-known zero names list e = tt
+names-known (suc n) names list e =
+    let both = or-none _ _ e in
+    (right-stands names (namePlaceIn list 0) (both .0) .name, names-known n names (drop curveWidth list) (both .1))
+
+eights : (n : ℕ) (list : List ℕ) → curveWidth * n ≤ length list → Each (Each IsNumber) (bodiesIn n list) → Each IsBody (bodiesIn n list)
+unfolding bodiesIn Each
+eights zero list l h = tt
+eights (suc n) list l h = (
+  record { eight = length-take-le cardNumbers (drop 2 list) (omega (arith, length-drop 2 list)); small = h .0 },
+  eights n (drop curveWidth list) (omega (arith, length-drop curveWidth list)) (h .1),
+)
+
+module _ (list names : List ℕ) where
+  abbrev n : ℕ
+  n = curveCount (length list)
+
+  abbrev curves : List Curve
+  curves = curvesOf list names
+
+  abbrev wrong : Bool
+  wrong = wrongList list names
+
+  abbrev twins : Bool
+  twins = twinned list names
+
+  right-list : wrong ≡ false → RightList list names n
+  right-list e =
+      let both = or-none (notTens (length list)) (someWrong n names list) e in
+      let tens = tens-of (length list) (both .0) in
+      record {
+        some = tens .1 .0;
+        few = tens .1 .1;
+        ten = tens .0;
+        named = λ i l. right-stands names (namePlaceIn list i) (wrong-at n names list (both .1) i l);
+      }
+
+  list-right : (m : ℕ) → RightList list names m → wrong ≡ false
+  list-right m r =
+      let tens = of-tens (length list) m (r .ten) (r .some) (r .few) in
+      neither-met (notTens (length list)) (someWrong n names list) (tens .1)
+      (wrong-all n names list (λ i l. stands-right names (namePlaceIn list i) (r .named i (omega (arith, tens .0)))))
+
+  seven : someLong (bodiesIn n list) ≡ false → SevenDigits list names
+  seven e = rw (curves-bodies n names list) (no-longs (bodiesIn n list) e)
+
+  digits : SevenDigits list names → someLong (bodiesIn n list) ≡ false
+  digits h = longs-none (bodiesIn n list) (rw (curves-bodies n names list) at h)
+
+  module _ (room : ℕ) where
+    abbrev unwritable : Bool
+    unwritable = tooLong list names room
+
+    number : writerNumber list names room ≡ given wrong twins unwritable
+    number = number-is list names room
+
+    says-wrong : (writerNumber list names room ≡ 31) ↔ WrongList list names
+    says-wrong = (
+      λ e. record { wrong = λ m r. true≢false (sym (given-first wrong twins unwritable (sym number ∙ e)) ∙ list-right m r) },
+      λ w. let a : wrong ≡ true = not-met wrong (λ f. w .wrong n (right-list f)) in number ∙ rw a,
+    )
+
+    says-twin : (writerNumber list names room ≡ 32) ↔ TwinList list names
+    says-twin = (
+      λ e. let g = given-second wrong twins unwritable (sym number ∙ e) in
+          record { n = n; right = right-list (g .0); twin = λ t. true≢false (sym (g .1) ∙ twins-none (namesOf curves) t) },
+      λ w. let a : wrong ≡ false = list-right (w .n) (w .right) in
+          let b : twins ≡ true = not-met twins (λ f. w .twin (no-twins (namesOf curves) f)) in
+          number ∙ rw (a, b),
+    )
+
+    says-short : (writerNumber list names room ≡ 33) ↔ Unwritable list names room
+    says-short = (
+      λ e. let g = given-third wrong twins unwritable (sym number ∙ e) in
+          record {
+            n = n;
+            right = right-list (g .0);
+            twins = no-twins (namesOf curves) (g .1 .0);
+            short = λ s l. true≢false (sym (g .1 .1) ∙ neither-met _ _ (le-ltb _ _ l) (digits s));
+          },
+      λ w. let a : wrong ≡ false = list-right (w .n) (w .right) in
+          let b : twins ≡ false = twins-none (namesOf curves) (w .twins) in
+          let c : unwritable ≡ true = not-met unwritable (λ f. let both = or-none _ _ f in w .short (seven (both .1)) (ltb-false _ _ (both .0))) in
+          number ∙ rw (a, b, c),
+    )
+
+    says-fits : (writerNumber list names room ≡ 0) ↔ Fits list names room
+    says-fits = (
+      λ e. let g = given-none wrong twins unwritable (sym number ∙ e) in
+          let both = or-none _ _ (g .1 .1) in
+          record {
+            n = n;
+            right = right-list (g .0);
+            twins = no-twins (namesOf curves) (g .1 .0);
+            numbers = seven (both .1);
+            long = ltb-false _ _ (both .0);
+          },
+      λ w. let a : wrong ≡ false = list-right (w .n) (w .right) in
+          let b : twins ≡ false = twins-none (namesOf curves) (w .twins) in
+          let c : unwritable ≡ false = neither-met _ _ (le-ltb _ _ (w .long)) (digits (w .numbers)) in
+          number ∙ rw (a, b, c),
+    )
+
+    -- the curves of an accepted list are a book's
+    pub is-book : writerNumber list names room ≡ 0 → IsBook curves
+    is-book e =
+        let g = given-none wrong twins unwritable (sym number ∙ e) in
+        let r = right-list (g .0) in
+        let w = or-none (notTens (length list)) (someWrong n names list) (g .0) in
+        let both = or-none (room below length (bookText curves)) (someLong (bodiesIn n list)) (g .1 .1) in
+        let count = curves-count n names list in
+        record {
+          some = omega (arith, count, r .some);
+          few = omega (arith, count, r .few);
+          names = names-known n names list (w .1);
+          bodies = rw (curves-bodies n names list) (eights n list (omega (arith, r .ten)) (no-longs (bodiesIn n list) (both .1)));
+          twins = no-twins (namesOf curves) (g .1 .0);
+        }
+
+  module _ (buffer : List ℕ) where
+    module _ (e : writerNumber list names (length buffer) ≡ 0) where
+      count-is : (replyToList list names (length buffer)) .count ≡ length (bookText curves)
+      unfolding replyToList replyBy
+      count-is = rw (eq-eqb _ _ e)
+
+      written-is : written list names buffer ≡ bookText curves
+      written-is = ap₂ take count-is (buffer-is list names buffer e) ∙ take-append-seam (bookText curves) _
+
+      later-kept : drop (length (written list names buffer)) (bufferAfter list names buffer) ≡ drop (length (written list names buffer)) buffer
+      later-kept =
+          rw written-is (ap (drop (length (bookText curves))) (buffer-is list names buffer e) ∙ drop-append-seam (bookText curves) _)
+
+      reads : (lent : List ℕ) → leastList ≤ length lent
+          → (replyToBook (written list names buffer) (length lent) ≡ acceptedOf n)
+          × (curvesIn n (written list names buffer) (listAfter (written list names buffer) lent) ≡ curves)
+      reads lent room =
+          let book = is-book (length buffer) e in
+          let a = meaning .accepted curves book lent room in
+          let count = curves-count n names list in
+          rw written-is (
+            a .0 ∙ ap acceptedOf count,
+            ap₂ (λ (k : ℕ) (l : List ℕ). curvesIn k (bookText curves) l) (sym count) (a .1)
+                ∙ meaning .given curves book (drop (curveWidth * length curves) lent),
+          )
+
+-- ---- a book that was read
+-- the names of the curves whose contents lines stand in the text are right
+entries-right : (text : List ℕ) (curves : List Curve) (at line end : ℕ) (rest : List ℕ) → Each IsName (namesOf curves) → Each IsBody (bodiesOf curves)
+    → Stands text at (contentsTexts line (namesOf curves)) end → someWrong (length curves) text (entries at line curves ++ rest) ≡ false
+unfolding Each contentsTexts entries someWrong namePlaceIn
+entries-right text [] at line end rest known eights s = refl
+entries-right text (curve ∷ curves) at line end rest known eights s =
+    let next : ℕ = at + length (contentsText (curve .name) line) in
+    let later : List ℕ = entries next (line + 1) curves in
+    let front : Stands text at (contentsText (curve .name) line) next = stands-front (contentsText (curve .name) line) _ s in
+    let there : drop at text ≡ curve .name ++ ((32 ∷ numberText line 10) ++ drop next text) =
+    front .there ∙ append-assoc (curve .name) (32 ∷ numberText line 10) (drop next text) in
+    let name : take (length (curve .name)) (drop at text) ≡ curve .name =
+    ap (take (length (curve .name))) there ∙ take-append-seam (curve .name) _ in
+    let long : length text - at ≡ length (curve .name) + length ((32 ∷ numberText line 10) ++ drop next text) =
+    sym (length-drop at text) ∙ ap length there ∙ length-append (curve .name) _ in
+    let joined : curve .numbers ++ later ++ rest ≡ curve .numbers ++ (later ++ rest) = append-assoc (curve .numbers) later rest in
+    let others : drop cardNumbers (curve .numbers ++ later ++ rest) ≡ later ++ rest =
+    ap (drop cardNumbers) joined ∙ drop-at (curve .numbers) (later ++ rest) cardNumbers (eights .0 .eight) in
+    neither-met _ _
+    (stands-right text _ (record { inside = omega (arith, long, known .0 .some); name = subst IsName (sym name) (known .0) }))
+    (ap (someWrong (length curves) text) others
+    ∙ entries-right text curves next (line + 1) end rest (known .1) (eights .1) (stands-back (contentsText (curve .name) line) _ s))
+
+entries-long : (curves : List Curve) (at line : ℕ) → Each IsBody (bodiesOf curves) → length (entries at line curves) ≡ curveWidth * length curves
+unfolding Each entries
+entries-long [] at line h = refl
+entries-long (curve ∷ curves) at line h =
+    length-append (at ∷ length (curve .name) ∷ curve .numbers) _
+    ∙ omega (arith, h .0 .eight, entries-long curves (at + length (contentsText (curve .name) line)) (line + 1) (h .1))
+
+smalls : (bodies : List (List ℕ)) → Each IsBody bodies → Each (Each IsNumber) bodies
+unfolding Each
+smalls [] h = tt
+smalls (numbers ∷ bodies) h = (h .0 .small, smalls bodies (h .1))
+
+module _ (curves : List Curve) (book : IsBook curves) where
+  abbrev text : List ℕ
+  text = bookText curves
+
+  abbrev front : List ℕ
+  front = bookEntries curves
+
+  front-long : length front ≡ curveWidth * length curves
+  front-long = entries-long curves (contentsPlace curves) (length curves + 2) (book .bodies)
+
+  front-count : curveCount (length front) ≡ length curves
+  front-count = omega (arith, front-long)
+
+  front-curves : curvesOf front text ≡ curves
+  front-curves =
+      ap₂ (λ (k : ℕ) (l : List ℕ). curvesIn k text l) front-count (sym (append-nil front))
+      ∙ meaning .given curves book []
+
+  front-right : someWrong (length curves) text front ≡ false
+  front-right =
+      subst (λ (l : List ℕ). someWrong (length curves) text l ≡ false) (append-nil front)
+      (entries-right text curves (contentsPlace curves) (length curves + 2) (bodiesPlace curves) [] (book .names) (book .bodies) (contents-stand curves))
+
+  -- the list of a book is written in any buffer that is as long
+  front-number : (room : ℕ) → length text ≤ room → writerNumber front text room ≡ 0
+  front-number room h =
+      says-fits front text room .1 (record {
+        n = length curves;
+        right = record {
+          some = book .some;
+          few = book .few;
+          ten = front-long;
+          named = λ i l. right-stands text (namePlaceIn front i) (wrong-at (length curves) text front front-right i l);
+        };
+        twins = rw front-curves (book .twins);
+        numbers = rw front-curves (smalls (bodiesOf curves) (book .bodies));
+        long = rw front-curves h;
+      })
+
+of-book : (curves : List Curve) → IsBook curves → (lent buffer : List ℕ) → leastList ≤ length lent → length (bookText curves) ≤ length buffer
+    → (replyToList (frontOf (bookText curves) lent) (bookText curves) (length buffer) ≡ replyBy 0 (length (bookText curves)))
+    × (bufferAfter (frontOf (bookText curves) lent) (bookText curves) buffer ≡ bookText curves ++ drop (length (bookText curves)) buffer)
+of-book curves book lent buffer room h =
+    let text = bookText curves in
+    let a = meaning .accepted curves book lent room in
+    let count : (replyToBook text (length lent)) .count ≡ length curves = ap (λ (r : BookReply). r .count) (a .0) in
+    let front : frontOf text lent ≡ bookEntries curves =
+    ap₂ (λ (k : ℕ) (l : List ℕ). take (curveWidth * k) l) count (a .1)
+    ∙ take-at (bookEntries curves) _ (curveWidth * length curves) (front-long curves book) in
+    let number = front-number curves book (length buffer) h in
+    rw front (
+      reply-is (bookEntries curves) text buffer number ∙ ap (λ (c : List Curve). replyBy 0 (length (bookText c))) (front-curves curves book),
+      buffer-is (bookEntries curves) text buffer number ∙ ap (λ (c : List Curve). bookText c ++ drop (length (bookText c)) buffer) (front-curves curves book),
+    )
+
+written-back : (text lent buffer : List ℕ) → (replyToBook text (length lent)) .number ≡ 0 → length text ≤ length buffer
+    → (replyToList (frontOf text lent) text (length buffer) ≡ replyBy 0 (length text))
+    × (bufferAfter (frontOf text lent) text buffer ≡ text ++ drop (length text) buffer)
+written-back text lent buffer e h =
+    let o = meaning .only text lent e in
+    let curves = o .1 .curves in
+    let book = o .1 .book in
+    let same = o .1 .same in
+    subst (λ (t : List ℕ). (replyToList (frontOf t lent) t (length buffer) ≡ replyBy 0 (length t))
+    × (bufferAfter (frontOf t lent) t buffer ≡ t ++ drop (length t) buffer)) (sym same)
+    (of-book curves book lent buffer (o .0) (rw same at h))
+
+pub writer-meaning : WriterTheorem
+writer-meaning = record {
+  wrong = says-wrong;
+  twin = says-twin;
+  short = says-short;
+  fits = says-fits;
+  refused = refused;
+  book = λ list names buffer e. (is-book list names (length buffer) e, (written-is list names buffer e, later-kept list names buffer e));
+  reads = λ list names buffer lent e room. reads list names buffer e lent room;
+  back = written-back;
+}

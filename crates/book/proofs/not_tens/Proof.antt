@@ -1,0 +1,18 @@
+-- `book::not_tens` meets its contract.
+-- Assumes nothing.
+use borrow.Author.Tests.{eq-eqb, ne-eqb, lt-ltb, le-ltb}
+use Rattle.book.specs.Writing.{notTens}
+use Rattle.book.proofs.not_tens.Statement.{statement}
+use Rattle.book.proofs.not_tens.Tie as tie
+
+returns : tie.Need-returns
+returns c = simp (ne-eqb _ _ (c .if1 .taken))
+
+returns-2 : tie.Need-returns-2
+returns-2 c = simp (eq-eqb _ _ (c .before .if1 .left), lt-ltb _ _ (c .if2 .taken))
+
+returns-3 : tie.Need-returns-3
+returns-3 c = simp (eq-eqb _ _ (c .before .if1 .left), le-ltb _ _ (c .if2 .left))
+
+pub not-tens-spec : {M : Type 1} → statement M
+not-tens-spec = tie.close (tie.spec returns returns-2 returns-3)

@@ -1,0 +1,41 @@
+-- What the private functions of the writer promise. Writing.antt says what is written, and no public contract cites this file.
+-- Assumes nothing.
+use Prim.Native.Nat.{ℕ, zero, suc, _+_}
+use mathlib.Core.Path.{_≡_}
+use mathlib.Core.List.{List, [], _∷_}
+use mathlib.Core.Bool.{Bool, true, false, cond}
+use lib.ListN.{length, drop}
+use Rattle.card_list.specs.declared.NamePlace.{NamePlace}
+use Rattle.card_list.specs.List.{curveWidth, namePlaceIn}
+use Rattle.book.specs.Printed.{bodyText, bookText}
+use Rattle.book.specs.Meaning.{curvesIn}
+use Rattle.book.specs.Reading.{keyFrom, among}
+use Rattle.book.specs.Writing.{bodiesIn, isWrong, someWrong, hasLong, someLong}
+use Rattle.book.specs.declared.text.ReadName.{ReadName}
+
+-- the key of the name at a place
+abbrev pub placeKey : List ℕ → NamePlace → ℕ
+placeKey names at = keyFrom (at .size) names (at .place)
+
+-- the name at a place as it is read: its size and its key, both 0 where it is wrong
+unfoldable pub nameRead : List ℕ → NamePlace → ReadName
+nameRead names at = cond (isWrong names at) (record { size = 0; key = 0 }) (record { size = at .size; key = placeKey names at })
+
+-- the keys of the names of the first n curves of a list
+unfoldable pub keysIn : ℕ → List ℕ → List ℕ → List ℕ
+keysIn zero names list = []
+keysIn (suc n) names list = placeKey names (namePlaceIn list 0) ∷ keysIn n names (drop curveWidth list)
+
+-- whether a key stands twice
+unfoldable pub twinKeys : List ℕ → Bool
+twinKeys [] = false
+twinKeys (key ∷ keys) = cond (among keys key) true (twinKeys keys)
+
+-- how many bytes a body has; 0 with a number above seven digits
+unfoldable pub bodySize : List ℕ → ℕ
+bodySize numbers = cond (hasLong numbers) 0 (length (bodyText numbers))
+
+-- r counts the bytes of the book of the first n curves of a list, whatever bytes their names stand in; 0 with a number above seven digits
+abbrev pub Sizes : ℕ → List ℕ → ℕ → Type 0
+Sizes n list r =
+    (names : List ℕ) → someWrong n names list ≡ false → r ≡ cond (someLong (bodiesIn n list)) 0 (length (bookText (curvesIn n names list)))

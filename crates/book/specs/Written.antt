@@ -1,0 +1,88 @@
+-- What the definitions of the writer mean: each number is given exactly when its words hold, what is written is a book with the list's own
+-- names and numbers, and what was read from a book is written back byte for byte.
+-- Assumes nothing.
+use Prim.Native.Nat.{ℕ, _+_, _*_, _≤_, _<_}
+use mathlib.Core.Logic.{_↔_}
+use mathlib.Core.Path.{_≡_}
+use mathlib.Core.List.{List, _++_}
+use lib.ListN.{length, take, drop}
+use Rattle.decimal.specs.Decimal.{Each}
+use Rattle.card.specs.Table.{replyBy}
+use Rattle.card_list.specs.declared.NamePlace.{NamePlace}
+use Rattle.card_list.specs.List.{curveWidth, namePlaceIn, nameBytes}
+use Rattle.book.specs.Book.{mostCurves, leastList, acceptedOf, replyToBook, listAfter}
+use Rattle.book.specs.Printed.{IsName, IsNumber, NoTwins, IsBook, namesOf, bodiesOf, bookText}
+use Rattle.book.specs.Meaning.{curvesIn}
+use Rattle.book.specs.Writing.{curveCount, curvesOf, writerNumber, replyToList, bufferAfter}
+
+-- a name stands whole in the bytes
+pub record NameStands (names : List ℕ) (at : NamePlace) : Type 0 where
+  pub inside : at .place + at .size ≤ length names
+  pub name : IsName (nameBytes names at)
+
+-- a list with nothing that 31 refuses: ten numbers for each of n curves, n from 1 to 64, and the name of each stands in the bytes
+pub record RightList (list names : List ℕ) (n : ℕ) : Type 0 where
+  pub some : 1 ≤ n
+  pub few : n ≤ mostCurves
+  pub ten : length list ≡ curveWidth * n
+  pub named : (i : ℕ) → i < n → NameStands names (namePlaceIn list i)
+
+-- 31: it is no such list, whatever n
+pub record WrongList (list names : List ℕ) : Type 0 where
+  pub wrong : (n : ℕ) → RightList list names n → ⊥
+
+-- 32: such a list, and a name has a twin
+pub record TwinList (list names : List ℕ) : Type 0 where
+  pub n : ℕ
+  pub right : RightList list names n
+  pub twin : NoTwins (namesOf (curvesOf list names)) → ⊥
+
+-- all its numbers have at most seven digits
+abbrev pub SevenDigits : List ℕ → List ℕ → Type 0
+SevenDigits list names = Each (Each IsNumber) (bodiesOf (curvesOf list names))
+
+-- 33: such a list without twins, and a number is above seven digits or the buffer is shorter than the book
+pub record Unwritable (list names : List ℕ) (room : ℕ) : Type 0 where
+  pub n : ℕ
+  pub right : RightList list names n
+  pub twins : NoTwins (namesOf (curvesOf list names))
+  pub short : SevenDigits list names → length (bookText (curvesOf list names)) ≤ room → ⊥
+
+-- 0: none of these; then the curves are a book's
+pub record Fits (list names : List ℕ) (room : ℕ) : Type 0 where
+  pub n : ℕ
+  pub right : RightList list names n
+  pub twins : NoTwins (namesOf (curvesOf list names))
+  pub numbers : SevenDigits list names
+  pub long : length (bookText (curvesOf list names)) ≤ room
+
+-- a written book: its bytes, as many as the reply counts
+abbrev pub written : List ℕ → List ℕ → List ℕ → List ℕ
+written list names buffer = take ((replyToList list names (length buffer)) .count) (bufferAfter list names buffer)
+
+-- the front part of a list that a reader has filled with the curves of a text: ten numbers for each curve that it counts
+abbrev pub frontOf : List ℕ → List ℕ → List ℕ
+frontOf text list = take (curveWidth * (replyToBook text (length list)) .count) (listAfter text list)
+
+-- THEOREM (proofs/WriterMeaning.antt): for every list, whatever bytes its names count in and whatever buffer is lent
+pub record WriterTheorem : Type 0 where
+  -- each number is given exactly when its words hold
+  pub wrong : (list names : List ℕ) (room : ℕ) → (writerNumber list names room ≡ 31) ↔ WrongList list names
+  pub twin : (list names : List ℕ) (room : ℕ) → (writerNumber list names room ≡ 32) ↔ TwinList list names
+  pub short : (list names : List ℕ) (room : ℕ) → (writerNumber list names room ≡ 33) ↔ Unwritable list names room
+  pub fits : (list names : List ℕ) (room : ℕ) → (writerNumber list names room ≡ 0) ↔ Fits list names room
+  -- a refusal gives its number and a count of 0, and leaves the buffer as it is
+  pub refused : (list names buffer : List ℕ) → (writerNumber list names (length buffer) ≡ 0 → ⊥)
+      → (replyToList list names (length buffer) ≡ replyBy (writerNumber list names (length buffer)) 0) × (bufferAfter list names buffer ≡ buffer)
+  -- an accepted list has the curves of a book, which is what is written, and the later bytes are kept
+  pub book : (list names buffer : List ℕ) → writerNumber list names (length buffer) ≡ 0
+      → IsBook (curvesOf list names) × ((written list names buffer ≡ bookText (curvesOf list names))
+      × (drop (length (written list names buffer)) (bufferAfter list names buffer) ≡ drop (length (written list names buffer)) buffer))
+  -- reading a written book gives those names and numbers, whatever list of 640 numbers or more is lent to the reader
+  pub reads : (list names buffer lent : List ℕ) → writerNumber list names (length buffer) ≡ 0 → leastList ≤ length lent
+      → (replyToBook (written list names buffer) (length lent) ≡ acceptedOf (curveCount (length list)))
+      × (curvesIn (curveCount (length list)) (written list names buffer) (listAfter (written list names buffer) lent) ≡ curvesOf list names)
+  -- writing back what was read from an accepted book gives its bytes, in any buffer that is as long
+  pub back : (text lent buffer : List ℕ) → (replyToBook text (length lent)) .number ≡ 0 → length text ≤ length buffer
+      → (replyToList (frontOf text lent) text (length buffer) ≡ replyBy 0 (length text))
+      × (bufferAfter (frontOf text lent) text buffer ≡ text ++ drop (length text) buffer)

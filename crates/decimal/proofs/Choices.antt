@@ -1,0 +1,30 @@
+-- Laws of choices, of what holds of each of a list, and of what is left.
+-- Assumes nothing.
+use Prim.Native.Nat.{ℕ, _≤_}
+use mathlib.Core.Path.{_≡_, refl, ap}
+use mathlib.Core.Bool.{Bool, true, false, cond}
+use mathlib.Core.List.{List, [], _∷_, _++_}
+use native.Mathlib.Omega.{arith}
+use Rattle.decimal.specs.Decimal.{Each}
+
+-- what holds in both cases of a test holds of the choice
+pub cond-case : {A : Type 0} (P : A → Type 0) (b : Bool) (x y : A) → (b ≡ true → P x) → (b ≡ false → P y) → P (cond b x y)
+cond-case P true x y p q = p refl
+cond-case P false x y p q = q refl
+
+-- where none is left, all is as at the start
+pub none-left : {A : Type 0} (f : ℕ → A) (k : ℕ) → k ≤ 0 → f k ≡ f 0
+none-left f k h = let z : k ≡ 0 = omega arith in ap f z
+
+pub each-none : {A : Type 0} (P : A → Type 0) → Each P []
+unfolding Each
+each-none P = tt
+
+pub each-first : {A : Type 0} (P : A → Type 0) (x : A) (xs : List A) → Each P (x ∷ xs) → P x
+unfolding Each
+each-first P x xs ps = ps .0
+
+pub each-more : {A : Type 0} (P : A → Type 0) (xs : List A) (x : A) → Each P xs → P x → Each P (xs ++ (x ∷ []))
+unfolding Each
+each-more P [] x ps p = (p, tt)
+each-more P (y ∷ xs) x ps p = (ps .0, each-more P xs x (ps .1) p)

@@ -1,6 +1,6 @@
 /*
  * Pippinterm: the table of heights of a curve card, a day's cards in one table,
- * the book of cards, and the least length of a clothoid.
+ * the book of cards, read and written, and the least length of a clothoid.
  *
  * Link target/staticlib/libcapi.a, which `rt staticlib capi` proves and builds
  * for x86-64 and the System V calling convention, as gcc has it there, and for
@@ -11,13 +11,14 @@
  * these two take, and no start-up. It keeps nothing between two calls, so that
  * calls from several threads meet only in what they are lent.
  *
- * No call asks for a test beforehand: every card, every radius, every text and
- * every length has its reply. Only the C side can see to this much:
+ * No call asks for a test beforehand: every card, every radius, every text,
+ * every list and every length has its reply. Only the C side can see to this
+ * much:
  *   - a pointer leads to as many numbers or cards as are said to be there, and
- *     they lie as C aligns them. A table, a text, a list, a day's cards or its reply
- *     list may be NULL where the length given with it is 0; card, count, line and
- *     looked are never NULL, since a card has its eight numbers in every call, and
- *     count, line and looked are always written;
+ *     they lie as C aligns them. A table, a text, a list, names, a buffer, a day's
+ *     cards or its reply list may be NULL where the length given with it is 0;
+ *     card, count, line and looked are never NULL, since a card has its eight
+ *     numbers in every call, and count, line and looked are always written;
  *   - what is lent for writing in one call shares no memory with anything else
  *     that is lent in it, and nothing else writes to what is lent while the
  *     call runs.
@@ -78,6 +79,7 @@ extern "C" {
 #define PIPPINTERM_MOST_CURVES 64     /* no book has more curves */
 #define PIPPINTERM_MOST_BYTES 8192    /* a text above this is refused */
 #define PIPPINTERM_LEAST_LIST 640     /* a list below this is refused; enough for every book */
+#define PIPPINTERM_ENOUGH_BOOK 4897   /* bytes of a buffer that is long enough for every book */
 
 /* The profiles: widths in mm, slopes in per mille, least radius in metres.
    Profile, half the carriageway, shoulder, crown slope, shoulder slope, least
@@ -96,7 +98,7 @@ extern "C" {
      200:70  250:80  300:90  400:100  500:110  600:120  700:120  800:120
      1000:120  2000:100 */
 
-/* What a turned-away card, book or day says: the trade's word, and the condition.
+/* What a turned-away card, book, day or list says: the trade's word, and the condition.
    A line is malformed where it is missing, not ended by byte 10, or anything
    else than: a number (the count line); a name, one blank and a number (a
    contents line); eight numbers with one blank between (a body). A number is 1
@@ -125,6 +127,11 @@ extern "C" {
 #define PIPPINTERM_REFUSED_SHORT_LIST 28      /* short list: below 640 numbers; line 0 */
 #define PIPPINTERM_REFUSED_MANY_CARDS 29      /* many cards: more than 64 in one call */
 #define PIPPINTERM_REFUSED_SHORT_REPLIES 30   /* short replies: a reply list below two numbers a card */
+#define PIPPINTERM_REFUSED_WRONG_LIST 31      /* wrong list: a length not ten times 1 to 64, a malformed name,
+                                                 or one outside the names' bytes */
+#define PIPPINTERM_REFUSED_LISTED_TWIN 32     /* listed twin: a twin name, two names of the same bytes */
+#define PIPPINTERM_REFUSED_SHORT_BUFFER 33    /* short buffer: below the book's bytes, or a number above
+                                                 seven digits */
 
 /*
  * Checks a card.
@@ -203,6 +210,27 @@ uint32_t pippinterm_fill_day(const uint32_t (*cards)[PIPPINTERM_CARD_NUMBERS],
 uint32_t pippinterm_read_book(const uint8_t *text, size_t text_length,
                               uint32_t *list, size_t list_length,
                               uint32_t *count, uint32_t *line);
+
+/*
+ * Writes the book of a list of curves, as pippinterm_read_book gives it.
+ * The list has ten numbers a curve and nothing else: of a list that was read,
+ * hand over its first 10 x count numbers. The places of the names count in
+ * names, which is the text that was read, or any other bytes; names are compared
+ * as bytes, wherever they stand.
+ * Gives 0 for a list that makes a book: *count is then the count of its bytes,
+ * at most 4897, and they stand in the buffer from its start; the later bytes are
+ * as they were. Reading these bytes gives the names and the numbers of the list,
+ * and a list that was read from a book gives that book's bytes again.
+ * Else gives 31, then 32, then 33, each looked for in the whole list before the
+ * next: *count is then 0, and the whole buffer is as it was.
+ * A card that would be refused is written all the same: ask pippinterm_check_card.
+ * list_length is in numbers, names_length and buffer_length are in bytes; each
+ * may be any, 0 too. The buffer may not be the text that holds the names.
+ */
+uint32_t pippinterm_write_book(const uint32_t *list, size_t list_length,
+                               const uint8_t *names, size_t names_length,
+                               uint8_t *buffer, size_t buffer_length,
+                               uint32_t *count);
 
 #ifdef __cplusplus
 }

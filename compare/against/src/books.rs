@@ -4,10 +4,10 @@ use crate::cards;
 use crate::lent::ABOVE_16_BITS;
 use crate::seeded::Seeded;
 
-const CAPITALS_AND_DIGITS: &[u8] = b"ABCDEFGHIJKLMNOPQRSTUVWXYZ0123456789";
+pub const CAPITALS_AND_DIGITS: &[u8] = b"ABCDEFGHIJKLMNOPQRSTUVWXYZ0123456789";
 const ALPHABET: &[u8] = b"0123456789  \n\nABZ";
 /// Bytes just outside what a name or a number may hold.
-const STRANGE: &[u8] = b"/:@[`az+-.,_\t\r\x00\x7f\x80\xff\n 0";
+pub const STRANGE: &[u8] = b"/:@[`az+-.,_\t\r\x00\x7f\x80\xff\n 0";
 const SIZES: [usize; 5] = [0, 8191, 8192, 8193, 20_000];
 /// Of the texts of set sizes, one in so many has more than 65,536 bytes.
 const LONG_ONE_IN: usize = 100;
@@ -19,7 +19,7 @@ pub struct Book {
 }
 
 /// The lines of a book, without their byte 10.
-type Lines = Vec<Vec<u8>>;
+pub type Lines = Vec<Vec<u8>>;
 
 /// Makes a seeded book.
 type Make = fn(&mut Seeded) -> Book;
@@ -74,6 +74,12 @@ fn bytes_faulted(seeded: &mut Seeded, fault: fn(&mut Vec<u8>, &mut Seeded)) -> B
 /// A valid book: the count, the contents, the bodies.
 fn lines(seeded: &mut Seeded) -> Lines {
     let count = curve_count(seeded);
+    let names = names(count, seeded);
+    lines_with(&names, seeded)
+}
+
+/// So many names, none of them twins.
+pub fn names(count: usize, seeded: &mut Seeded) -> Lines {
     let mut names: Lines = Vec::new();
     while names.len() < count {
         let name = name(&names, seeded);
@@ -81,7 +87,7 @@ fn lines(seeded: &mut Seeded) -> Lines {
             names.push(name);
         }
     }
-    lines_with(&names, seeded)
+    names
 }
 
 fn lines_with(names: &Lines, seeded: &mut Seeded) -> Lines {
@@ -96,7 +102,7 @@ fn lines_with(names: &Lines, seeded: &mut Seeded) -> Lines {
     lines
 }
 
-fn curve_count(seeded: &mut Seeded) -> usize {
+pub fn curve_count(seeded: &mut Seeded) -> usize {
     match seeded.below(10) {
         0 => 1,
         1 => 64,
@@ -128,14 +134,17 @@ fn contents_line(name: &[u8], line: usize) -> Vec<u8> {
     [name, &number].concat()
 }
 
-/// Eight numbers: an accepted card, a damaged one, or numbers of 1 to 7 digits.
 fn body(seeded: &mut Seeded) -> Vec<u8> {
-    let card = match seeded.below(4) {
+    body_line(&card(seeded))
+}
+
+/// Eight numbers: an accepted card, a damaged one, or numbers of 1 to 7 digits.
+pub fn card(seeded: &mut Seeded) -> cards::Numbers {
+    match seeded.below(4) {
         0 | 1 => cards::valid(seeded),
         2 => cards::damaged(seeded).map(|number| number % 10_000_000),
         _ => std::array::from_fn(|_| digits(seeded)),
-    };
-    body_line(&card)
+    }
 }
 
 fn body_line(card: &cards::Numbers) -> Vec<u8> {
@@ -143,7 +152,7 @@ fn body_line(card: &cards::Numbers) -> Vec<u8> {
 }
 
 /// A number of 1 to 7 digits.
-fn digits(seeded: &mut Seeded) -> u32 {
+pub fn digits(seeded: &mut Seeded) -> u32 {
     let bound = 10_u32.pow(seeded.between(1, 7));
     match seeded.below(4) {
         0 => bound - 1,
@@ -243,8 +252,14 @@ fn twin_name_at(lines: &mut Lines, place: usize, seeded: &mut Seeded) {
     put_name(&mut lines[place], &name);
 }
 
-/// Names that begin like another, none of them twins: accepted.
+/// Names that begin like another: accepted.
 fn names_alike(seeded: &mut Seeded) -> Book {
+    let names = alike(seeded);
+    book(lines_with(&names, seeded))
+}
+
+/// Fronts of one name and such that differ from it in one byte, none of them twins.
+pub fn alike(seeded: &mut Seeded) -> Lines {
     let full: Vec<u8> = (0..8).map(|_| seeded.pick(CAPITALS_AND_DIGITS)).collect();
     let mut names: Lines = (1..=8).map(|length| full[..length].to_vec()).collect();
     for place in 0..8 {
@@ -259,7 +274,7 @@ fn names_alike(seeded: &mut Seeded) -> Book {
         names.swap(one, other);
     }
     names.truncate(seeded.between(2, 16) as usize);
-    book(lines_with(&names, seeded))
+    names
 }
 
 /// A name without signs, of more than eight, or with a sign that no name holds.
@@ -426,7 +441,7 @@ fn above_16_bits(seeded: &mut Seeded) -> Book {
 
 /// A book of 4897 bytes, as long as one can be: 64 names of eight signs, and numbers of seven digits. Half of them with one byte at fault.
 fn longest(seeded: &mut Seeded) -> Book {
-    let names: Lines = (10..74).map(|i| long_name(i, seeded)).collect();
+    let names = long_names(seeded);
     let mut lines = lines_with(&names, seeded);
     for line in &mut lines[65..] {
         let card: cards::Numbers = std::array::from_fn(|_| seeded.between(1_000_000, 9_999_999));
@@ -437,6 +452,11 @@ fn longest(seeded: &mut Seeded) -> Book {
         seeded.pick(&[change_byte, add_byte, drop_byte])(&mut book.text, seeded);
     }
     book
+}
+
+/// 64 names of eight signs, none of them twins.
+pub fn long_names(seeded: &mut Seeded) -> Lines {
+    (10..74).map(|i| long_name(i, seeded)).collect()
 }
 
 /// A name of eight signs that ends in the two digits of its number.

@@ -1,6 +1,8 @@
-//! Compares the compiled library with the paper's rules, card by card, book by book, day by day and radius by radius.
+//! Compares the compiled library with the paper's rules, card by card, book by book, day by day, radius by radius and
+//! list by list.
 //!
-//! `against [--cards N] [--books N] [--days N] [--seed S]`: the same words give the same output; the radii are always the same.
+//! `against [--cards N] [--books N] [--days N] [--lists N] [--seed S]`: the same words give the same output; the radii
+//! are always the same.
 //! Ends well only without differences, with every reply met, no other one given, and every altered answer found.
 #![forbid(unsafe_code)]
 
@@ -12,8 +14,12 @@ mod day_case;
 mod day_tally;
 mod days;
 mod lent;
+mod list_case;
+mod list_tally;
+mod lists;
 mod radii;
 mod radius_case;
+mod read_back;
 mod seeded;
 mod tally;
 mod words;
@@ -21,9 +27,12 @@ mod work;
 #[cfg(test)]
 mod wrong_days;
 #[cfg(test)]
+mod wrong_lists;
+#[cfg(test)]
 mod wrong_radii;
 
 use day_tally::{DayTally, DAY_REPLIES, PLACES, SORTS as DAY_SORTS};
+use list_tally::{ListTally, LIST_REPLIES, SORTS as LIST_SORTS};
 use std::env;
 use std::process::ExitCode;
 use tally::{Altered, Tally, BOOK_REPLIES, CARD_REPLIES, SORTS};
@@ -34,6 +43,7 @@ const DEFAULT: Asked = Asked {
     cards: 1_000_000,
     books: 200_000,
     days: 20_000,
+    lists: 100_000,
     seed: 20_260_101,
 };
 /// How often each reply must be met in a run of the default size.
@@ -49,6 +59,7 @@ fn asked() -> Result<Asked, String> {
             "--cards" => &mut asked.cards,
             "--books" => &mut asked.books,
             "--days" => &mut asked.days,
+            "--lists" => &mut asked.lists,
             "--seed" => &mut asked.seed,
             _ => return Err(format!("unknown word {word}")),
         };
@@ -78,14 +89,17 @@ fn lacks(asked: Asked, tally: &Tally) -> Vec<String> {
     }
     let days_often = often(asked.days, DEFAULT.days, OFTEN_IN_DAYS);
     lacks.extend(day_lacks(&tally.days, days_often));
+    let lists_often = often(asked.lists, DEFAULT.lists, OFTEN);
+    lacks.extend(list_lacks(&tally.lists, lists_often));
     let unlisted = tally.unlisted;
     lacks.extend((unlisted > 0).then(|| format!("a listed reply to {unlisted} cards")));
     let whole = asked.cards >= DEFAULT.cards && asked.books >= DEFAULT.books;
-    let whole = whole && asked.days >= DEFAULT.days;
+    let whole = whole && asked.days >= DEFAULT.days && asked.lists >= DEFAULT.lists;
     lacks.extend(unseen("card", &tally.altered_cards, whole));
     lacks.extend(unseen("book", &tally.altered_books, whole));
     lacks.extend(unseen("day", &tally.days.altered, whole));
     lacks.extend(unseen("radius", &tally.altered_radii, true));
+    lacks.extend(unseen("list", &tally.lists.altered, whole));
     lacks
 }
 
@@ -109,6 +123,19 @@ fn day_lacks(tally: &DayTally, due: u64) -> Vec<String> {
     lacks
 }
 
+/// Replies to lists and sorts of lists that are met too rarely.
+fn list_lacks(tally: &ListTally, due: u64) -> Vec<String> {
+    let mut lacks = Vec::new();
+    for (place, reply) in LIST_REPLIES.iter().enumerate() {
+        let met = tally.list_reply(place);
+        lacks.extend(rarely(&format!("list reply {reply}"), met, due));
+    }
+    for ((sort, _), &met) in LIST_SORTS.iter().zip(&tally.sorts) {
+        lacks.extend(rarely(&format!("list with {sort}"), met, due));
+    }
+    lacks
+}
+
 fn rarely(what: &str, met: u64, due: u64) -> Option<String> {
     (met < due).then(|| format!("{what} met {met} times, at least {due} due"))
 }
@@ -127,7 +154,7 @@ fn main() -> ExitCode {
     let asked = match asked() {
         Ok(asked) => asked,
         Err(fault) => {
-            eprintln!("{fault}\nagainst [--cards N] [--books N] [--days N] [--seed S]");
+            eprintln!("{fault}\nagainst [--cards N] [--books N] [--days N] [--lists N] [--seed S]");
             return ExitCode::from(2);
         }
     };
@@ -138,10 +165,14 @@ fn main() -> ExitCode {
     words::print_differences(&tally);
     lacks.iter().for_each(|lack| println!("Lacking: {lack}"));
     let Asked {
-        cards, books, days, ..
+        cards,
+        books,
+        days,
+        lists,
+        ..
     } = asked;
     let (radii, differing) = (tally.radii_compared(), tally.differing);
-    println!("{cards} cards, {books} books, {days} days, {radii} radii, {differing} differences");
+    println!("{cards} cards, {books} books, {days} days, {radii} radii, {lists} lists, {differing} differences");
     if differing == 0 && lacks.is_empty() {
         ExitCode::SUCCESS
     } else {

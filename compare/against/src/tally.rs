@@ -5,6 +5,7 @@ use crate::books;
 use crate::card_case::{self, CardAnswer, CardCase, CLASSES};
 use crate::cards;
 use crate::day_tally::DayTally;
+use crate::list_tally::ListTally;
 use crate::radius_case::{self, RadiusCase};
 use paper::card::profile;
 use paper::section::{Course, Runoff};
@@ -75,6 +76,7 @@ pub struct Tally {
     pub altered_books: [Altered; book_case::ALTERATIONS.len()],
     pub altered_radii: [Altered; radius_case::ALTERATIONS.len()],
     pub days: DayTally,
+    pub lists: ListTally,
     pub differing: u64,
     pub differences: Vec<Difference>,
 }
@@ -153,6 +155,7 @@ impl Tally {
         add_altered(&mut self.altered_books, &other.altered_books);
         add_altered(&mut self.altered_radii, &other.altered_radii);
         self.days.add(&other.days);
+        self.lists.add(&other.lists);
         self.unlisted += other.unlisted;
         self.rows += other.rows;
         self.table_numbers += other.table_numbers;

@@ -8,6 +8,9 @@ use crate::day_case::{self, DayAnswer, DayCase};
 use crate::day_tally::{DAY_REPLIES, PLACES, SORTS as DAY_SORTS};
 use crate::days::{self, MOST_CARDS};
 use crate::lent::Unlike;
+use crate::list_case::{self, ListAnswer, ListCase};
+use crate::list_tally::{LIST_REPLIES, SORTS as LIST_SORTS};
+use crate::lists::{self, LISTED, MOST_CURVES};
 use crate::radius_case::{self, RadiusAnswer, RadiusCase};
 use crate::tally::{Altered, Tally, BOOK_REPLIES, CARD_REPLIES, LENGTHS, RANGES, SORTS};
 use std::fmt::Arguments;
@@ -40,6 +43,8 @@ pub fn print_tally(tally: &Tally) {
     print_days(tally);
     println!();
     print_radii(tally);
+    println!();
+    print_lists(tally);
     println!();
     print_altered(tally);
 }
@@ -122,6 +127,28 @@ fn print_radii(tally: &Tally) {
     println!("{radii} radii compared; {numbers} numbers, guards too");
 }
 
+fn print_lists(tally: &Tally) {
+    let tally = &tally.lists;
+    heading(
+        "Lists by reply",
+        &LIST_REPLIES.map(|reply| reply.to_string()),
+    );
+    for ((name, _), counts) in lists::KINDS.iter().zip(&tally.lists) {
+        line(name, counts);
+    }
+    line("all", &sum(&tally.lists));
+    println!();
+    heading("Lists by sort", &["met".to_string()]);
+    for ((name, _), met) in LIST_SORTS.iter().zip(&tally.sorts) {
+        line(name, &[*met]);
+    }
+    let (curves, bytes, numbers) = (tally.curves, tally.bytes, tally.numbers);
+    println!(
+        "{curves} curves written in {bytes} bytes and read again, by the paper and by the library"
+    );
+    println!("{numbers} numbers and bytes compared, tails and guards too");
+}
+
 fn print_altered(tally: &Tally) {
     heading(
         "Altered on purpose",
@@ -139,9 +166,13 @@ fn print_altered(tally: &Tally) {
     for ((name, _), altered) in radius_case::ALTERATIONS.iter().zip(&tally.altered_radii) {
         line(&format!("radius: {name}"), &[altered.made, altered.found]);
     }
+    for ((name, _), altered) in list_case::ALTERATIONS.iter().zip(&tally.lists.altered) {
+        line(&format!("list: {name}"), &[altered.made, altered.found]);
+    }
     let (cards, books) = (&tally.altered_cards[..], &tally.altered_books[..]);
     let (days, radii) = (&tally.days.altered[..], &tally.altered_radii[..]);
-    let all = total(&[cards, books, days, radii].concat());
+    let lists = &tally.lists.altered[..];
+    let all = total(&[cards, books, days, radii, lists].concat());
     println!("{} altered answers, {} found", all.made, all.found);
 }
 
@@ -227,6 +258,27 @@ pub fn radius_difference(case: &RadiusCase, unlike: &[Unlike]) -> String {
 fn radius_words(answer: &RadiusAnswer) -> String {
     let (length, looked) = (answer.length, answer.looked.numbers()[0]);
     format!("length {length}, looked {looked}")
+}
+
+pub fn list_difference(origin: &Arguments, case: &ListCase, unlike: &[Unlike]) -> String {
+    let list = case.due.list.numbers();
+    let mut words = format!("list ({origin})\n  {} numbers\n", list.len());
+    for curve in list.chunks(LISTED).take(MOST_CURVES) {
+        words += &format!("  {curve:?}\n");
+    }
+    let names = case.due.names.numbers();
+    let (size, names) = (names.len(), names.escape_ascii());
+    let length = case.due.buffer.numbers().len();
+    words += &format!("  names in {size} bytes \"{names}\"\n");
+    words += &format!("  buffer of {length} bytes\n");
+    words += &format!("  due: {}\n", list_words(&case.due));
+    words += &format!("  came: {}\n", list_words(&case.came));
+    words + &places(unlike)
+}
+
+fn list_words(answer: &ListAnswer) -> String {
+    let (reply, count) = (answer.reply, answer.count.numbers()[0]);
+    format!("reply {reply}, count {count}")
 }
 
 fn places(unlike: &[Unlike]) -> String {

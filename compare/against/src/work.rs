@@ -7,6 +7,8 @@ use crate::cards;
 use crate::day_case::{self, Call, DayAnswer, DayCase};
 use crate::days;
 use crate::lent::Unlike;
+use crate::list_case::{self, ListAnswer, ListCase};
+use crate::lists;
 use crate::radii::radii;
 use crate::radius_case::{self, RadiusAnswer, RadiusCase};
 use crate::seeded::Seeded;
@@ -17,7 +19,7 @@ use std::ops::Range;
 use std::sync::atomic::{AtomicU64, Ordering};
 use std::thread;
 
-/// Cards or books in a piece, and days, which are longer; one of them is altered as well.
+/// Cards, books or lists in a piece, and days, which are longer; one of them is altered as well.
 const PIECE: u64 = 1000;
 const DAYS_PIECE: u64 = 100;
 /// Sorts of seeded numbers.
@@ -29,6 +31,8 @@ const DAY: u64 = 5;
 const ALTERED_DAY: u64 = 6;
 const RADIUS: u64 = 7;
 const ALTERED_RADIUS: u64 = 8;
+const LIST: u64 = 9;
+const ALTERED_LIST: u64 = 10;
 /// One accepted book in so many has its cards filled into tables too.
 const BOOKS_FILLED: usize = 4;
 
@@ -37,6 +41,7 @@ pub struct Asked {
     pub cards: u64,
     pub books: u64,
     pub days: u64,
+    pub lists: u64,
     pub seed: u64,
 }
 
@@ -60,6 +65,7 @@ fn pieces(asked: Asked, next: &AtomicU64) -> Tally {
     let card_pieces = asked.cards.div_ceil(PIECE);
     let books_end = card_pieces + asked.books.div_ceil(PIECE);
     let days_end = books_end + asked.days.div_ceil(DAYS_PIECE);
+    let lists_end = days_end + asked.lists.div_ceil(PIECE);
     let mut tally = Tally::default();
     loop {
         let piece = next.fetch_add(1, Ordering::Relaxed);
@@ -69,7 +75,9 @@ fn pieces(asked: Asked, next: &AtomicU64) -> Tally {
             books_of(piece, piece - card_pieces, asked, &mut tally);
         } else if piece < days_end {
             days_of(piece, piece - books_end, asked, &mut tally);
-        } else if piece == days_end {
+        } else if piece < lists_end {
+            lists_of(piece, piece - days_end, asked, &mut tally);
+        } else if piece == lists_end {
             all_radii(piece, asked.seed, &mut tally);
         } else {
             return tally;
@@ -170,6 +178,32 @@ fn days_of(piece: u64, nth: u64, asked: Asked, tally: &mut Tally) {
     }
 }
 
+/// The kind of the list of that index, and its answers by the paper and by the call.
+pub fn list(seed: u64, index: u64, call: list_case::Call) -> (usize, ListCase) {
+    let mut seeded = Seeded::new(seed, LIST, index);
+    let kind = index as usize % lists::KINDS.len();
+    let (_, make) = lists::KINDS[kind];
+    let list = make(&mut seeded);
+    (kind, list_case::run(&list, call, &mut seeded))
+}
+
+fn lists_of(piece: u64, nth: u64, asked: Asked, tally: &mut Tally) {
+    let mut altered = Seeded::new(asked.seed, ALTERED_LIST, nth);
+    let (range, chosen) = indices(nth, PIECE, asked.lists, &mut altered);
+    for index in range {
+        let (kind, case) = list(asked.seed, index, list_case::library);
+        let unlike = case.unlike();
+        let (name, _) = lists::KINDS[kind];
+        let origin = format_args!("{name}, index {index}");
+        tally.lists.count(kind, &case);
+        if !unlike.is_empty() {
+            tally.differs(piece, || words::list_difference(&origin, &case, &unlike));
+        } else if index == chosen {
+            alter_list(&case, &mut altered, tally);
+        }
+    }
+}
+
 /// The answers for a radius by the paper and by the call; the seed chooses the guards and what is there before.
 pub fn answers_for(seed: u64, radius: u32, call: radius_case::Call) -> RadiusCase {
     let mut seeded = Seeded::new(seed, RADIUS, u64::from(radius));
@@ -231,6 +265,12 @@ fn alter_day(case: &DayCase, seeded: &mut Seeded, tally: &mut Tally) {
     let answers = (&case.due, &case.came);
     let (alterations, tally) = (&day_case::ALTERATIONS, &mut tally.days.altered);
     alter_each(answers, DayAnswer::unlike, alterations, seeded, tally);
+}
+
+fn alter_list(case: &ListCase, seeded: &mut Seeded, tally: &mut Tally) {
+    let answers = (&case.due, &case.came);
+    let (alterations, tally) = (&list_case::ALTERATIONS, &mut tally.lists.altered);
+    alter_each(answers, ListAnswer::unlike, alterations, seeded, tally);
 }
 
 fn alter_radius(case: &RadiusCase, seeded: &mut Seeded, tally: &mut Tally) {

@@ -6,8 +6,8 @@ pub const HEADER: &str = include_str!("../../../include/pippinterm.h");
 
 /// "What a turned-away card or book says", by the trade's word, which the header puts behind `REFUSED`.
 /// The constant for 7 stays, though "Number 7 never occurs again" (document 02, Slip 1).
-/// Slip 2 has no words for 29 and 30: these are the header's own.
-const REFUSALS: [(&str, u32); 21] = [
+/// Slip 2 has no words for 29 and 30, nor has Slip 4 for 31 and 33, and its "twin name" is the word for 25: these are the header's own.
+const REFUSALS: [(&str, u32); 24] = [
     ("profile", 1),
     ("terrain", 2),
     ("radius", 3),
@@ -29,10 +29,17 @@ const REFUSALS: [(&str, u32); 21] = [
     ("short list", 28),
     ("many cards", 29),
     ("short replies", 30),
+    ("wrong list", 31),
+    ("listed twin", 32),
+    ("short buffer", 33),
 ];
 
-/// The card, the row, the list, a day's replies, and the sizes; 0 for an accepted card, day or book.
-const OTHERS: [(&str, u32); 33] = [
+/// The greatest book: the count line, 64 names of 8 bytes with a blank and the end of the line, the lines 66 to 129 that they name, and
+/// 64 bodies of eight numbers of 7 digits.
+const GREATEST_BOOK: u32 = 3 + 64 * (8 + 1 + 1) + 34 * 2 + 30 * 3 + 64 * 8 * (7 + 1);
+
+/// The card, the row, the list, a day's replies, and the sizes; 0 for an accepted card, day, book or list.
+const OTHERS: [(&str, u32); 34] = [
     ("accepted", 0),
     ("card profile", 0),
     ("card terrain", 1),
@@ -66,6 +73,7 @@ const OTHERS: [(&str, u32); 33] = [
     ("most curves", 64),
     ("most bytes", 8192),
     ("least list", 640),
+    ("enough book", GREATEST_BOOK),
 ];
 
 /// The word and the number of a line that has a constant.

@@ -1,4 +1,4 @@
-//! The library's five calls, over slices. An empty slice crosses as NULL, as the header allows.
+//! The library's six calls, over slices. An empty slice crosses as NULL, as the header allows.
 
 #[cfg(test)]
 mod header;
@@ -32,6 +32,15 @@ extern "C" {
         list_length: usize,
         count: *mut u32,
         line: *mut u32,
+    ) -> u32;
+    fn pippinterm_write_book(
+        list: *const u32,
+        list_length: usize,
+        names: *const u8,
+        names_length: usize,
+        buffer: *mut u8,
+        buffer_length: usize,
+        count: *mut u32,
     ) -> u32;
 }
 
@@ -102,4 +111,23 @@ pub fn read_book(text: &[u8], list: &mut [u32], count: &mut u32, line: &mut u32)
     let (list_length, list) = (list.len(), start_mut(list));
     // SAFETY: every place lent here is its slice's own, with its true length.
     unsafe { pippinterm_read_book(text, text_length, list, list_length, count, line) }
+}
+
+/// Writes the book into the buffer, sets the count of its bytes and gives the reply number.
+pub fn write_book(list: &[u32], names: &[u8], buffer: &mut [u8], count: &mut u32) -> u32 {
+    let (list_length, list) = (list.len(), start(list));
+    let (names_length, names) = (names.len(), start(names));
+    let (length, buffer) = (buffer.len(), start_mut(buffer));
+    // SAFETY: every place lent here is its slice's own, with its true length.
+    unsafe {
+        pippinterm_write_book(
+            list,
+            list_length,
+            names,
+            names_length,
+            buffer,
+            length,
+            count,
+        )
+    }
 }

@@ -1,7 +1,7 @@
 //! How much stack the calls take: less than the header says.
 
 use crate::header::HEADER;
-use crate::{check_card, fill_day, fill_table, least_length, read_book};
+use crate::{check_card, fill_day, fill_table, least_length, read_book, write_book};
 use std::arch::asm;
 
 /// What the header says, and the same in bytes.
@@ -9,6 +9,8 @@ const WORDS: &str = "less than 4 KB of stack";
 const SAID: usize = 4096;
 /// What the draft of a book's list takes by itself; a measure below it would measure nothing.
 const DRAFT: usize = 640 * 4;
+/// The same of the keys of the names of a list that is written.
+const KEYS: usize = 64 * 8;
 
 /// Cards of 3 and of 7 rows, and one that is refused.
 const EVEN: [u32; 8] = [5, 1, 30, 30_000, 60, 600, 20_000, 1];
@@ -69,6 +71,24 @@ fn reading_a_book() {
     let taken = taken(|| number = read_book(&text, &mut list, &mut count, &mut line));
     assert_eq!((number, count, line), (0, 64, 0));
     assert!((DRAFT..SAID).contains(&taken), "{taken} bytes");
+}
+
+/// The longest book is written back; then a buffer that is one byte short.
+#[test]
+fn writing_a_book() {
+    let (text, mut list) = (longest_book(), [0; 640]);
+    let mut buffer = vec![0; text.len()];
+    assert_eq!(read_book(&text, &mut list, &mut 0, &mut 0), 0);
+    for (length, due) in [(text.len(), 0), (text.len() - 1, 33)] {
+        let (mut number, mut count) = (1, 1);
+        let taken = taken(|| {
+            number = write_book(&list, &text, &mut buffer[..length], &mut count);
+        });
+        let bytes = if due == 0 { text.len() } else { 0 };
+        assert_eq!((number, count as usize), (due, bytes));
+        assert_eq!(buffer, text);
+        assert!((KEYS..SAID).contains(&taken), "{taken} bytes");
+    }
 }
 
 #[test]

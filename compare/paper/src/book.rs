@@ -18,7 +18,7 @@ const BODY: u32 = 26;
 const TAIL: u32 = 27;
 const SHORT_LIST: u32 = 28;
 
-const LINE_END: u8 = 10;
+pub(crate) const LINE_END: u8 = 10;
 const BLANK: u8 = b' ';
 
 /// What the call that reads a book answers.
@@ -160,7 +160,7 @@ fn name_and_number(line: &[u8]) -> Option<(&[u8], u32)> {
 }
 
 /// 1 to 8 capitals or digits.
-fn is_name(word: &[u8]) -> bool {
+pub(crate) fn is_name(word: &[u8]) -> bool {
     let fits = |byte: &u8| byte.is_ascii_uppercase() || byte.is_ascii_digit();
     (1..=8).contains(&word.len()) && word.iter().all(fits)
 }

@@ -1,6 +1,7 @@
 //! The paper "Superelevation runoff about the axis, categories II to V" (document 01), rule by rule,
 //! with what document 02 changes and adds: Slip 1, "The bank is widened, the shoulder is kept";
-//! Slip 2, "A whole day's cards in one call"; Slip 3, "Stop looking once found".
+//! Slip 2, "A whole day's cards in one call"; Slip 3, "Stop looking once found";
+//! Slip 4, "Write the book as well as read it".
 //!
 //! Written to be read beside the papers: their words, their order, exact fractions throughout.
 #![forbid(unsafe_code)]
@@ -11,11 +12,13 @@ pub mod day;
 pub mod fraction;
 pub mod rows;
 pub mod section;
+pub mod writer;
 
 pub use book::{read_book, BookReply};
 pub use card::{check_card, Card, Profile};
 pub use day::{fill_day, DayReply};
 pub use rows::{fill_table, rows, stations, TableReply};
+pub use writer::{write_book, WriterReply};
 
 #[cfg(test)]
 mod kept_shoulder;
@@ -27,3 +30,5 @@ mod printed;
 mod readings;
 #[cfg(test)]
 mod whole_day;
+#[cfg(test)]
+mod written_back;

@@ -5,7 +5,7 @@ use crate::fraction::{fraction, whole, Fraction};
 use crate::section::{Course, Runoff};
 use crate::{check_card, fill_table, read_book, rows, BookReply, Card, TableReply};
 
-const RAMP_BOOK: &[u8] = b"1\nRAMP 3\n5 1 30 30000 60 600 20000 1\n";
+pub const RAMP_BOOK: &[u8] = b"1\nRAMP 3\n5 1 30 30000 60 600 20000 1\n";
 pub const RAMP: [u32; 8] = [5, 1, 30, 30000, 60, 600, 20000, 1];
 /// The three rows that the paper prints for RAMP.
 #[rustfmt::skip]

@@ -3,6 +3,11 @@
  * fills the table of each curve and prints it. With --day it fills one table
  * with all the cards of the book by one call, and prints the same. Where a card
  * is refused for its clothoid, it says on standard error how long that must be.
+ *
+ * With --write it prints no table, but writes the book to the file NEW, which
+ * may be BOOK itself. Where a curve's NAME, the NUMBER of one of its card's
+ * eight numbers, from 1, and a VALUE are given, that number is changed before.
+ * It ends with 1 where the book or the list is refused, and writes nothing.
  */
 #include "pippinterm.h"
 
@@ -16,8 +21,10 @@ static uint32_t cards[PIPPINTERM_MOST_CARDS][PIPPINTERM_CARD_NUMBERS];
 static uint32_t replies[PIPPINTERM_ENOUGH_REPLIES];
 /* A card by itself gets the first PIPPINTERM_ENOUGH_TABLE numbers of it. */
 static int32_t table[PIPPINTERM_ENOUGH_DAY];
+/* The book that is written: not in the text, where the names stand. */
+static uint8_t buffer[PIPPINTERM_ENOUGH_BOOK];
 
-static const uint32_t *curve_at(uint32_t i)
+static uint32_t *curve_at(uint32_t i)
 {
     return list + PIPPINTERM_CURVE_NUMBERS * i;
 }
@@ -107,13 +114,22 @@ static int print_day(uint32_t curves)
     return 0;
 }
 
-static int print_book(size_t length, int by_day)
+/* Reads the book into the list; of a refused one it prints what that says, and gives 0. */
+static int read_book(size_t length, uint32_t *curves)
 {
-    uint32_t curves, line;
+    uint32_t line;
     uint32_t number = pippinterm_read_book(text, length, list, PIPPINTERM_LEAST_LIST,
-                                           &curves, &line);
+                                           curves, &line);
     if (number != PIPPINTERM_ACCEPTED) {
         printf("book %lu line %lu\n", (unsigned long)number, (unsigned long)line);
+    }
+    return number == PIPPINTERM_ACCEPTED;
+}
+
+static int print_book(size_t length, int by_day)
+{
+    uint32_t curves;
+    if (!read_book(length, &curves)) {
         return 0;
     }
     if (by_day) {
@@ -123,23 +139,138 @@ static int print_book(size_t length, int by_day)
     return 0;
 }
 
+/* The curve of that name, or NULL where the book has none. */
+static uint32_t *find_curve(uint32_t curves, const char *name)
+{
+    size_t size = strlen(name);
+    uint32_t i;
+    for (i = 0; i < curves; i++) {
+        if (curve_at(i)[PIPPINTERM_CURVE_NAME_SIZE] == size &&
+            memcmp(text + curve_at(i)[PIPPINTERM_CURVE_NAME_PLACE], name, size) == 0) {
+            return curve_at(i);
+        }
+    }
+    return NULL;
+}
+
+/* Reads digits as a number of 32 bits; gives 0 where anything else stands there. */
+static int read_number(const char *digits, uint32_t *number)
+{
+    uint64_t value = 0;
+    int understood = *digits != '\0';
+    for (; understood && *digits != '\0'; digits++) {
+        value = 10 * value + (uint64_t)(*digits - '0');
+        understood = *digits >= '0' && *digits <= '9' && value <= 4294967295u;
+    }
+    *number = (uint32_t)value;
+    return understood;
+}
+
+/* Changes one number of a card; gives its curve, or NULL where the words are not understood. */
+static const uint32_t *change_card(uint32_t curves, const char *name, const char *which,
+                                   const char *digits)
+{
+    uint32_t *curve = find_curve(curves, name);
+    uint32_t number, value;
+    if (curve == NULL) {
+        fprintf(stderr, "box: the book has no curve %s\n", name);
+        return NULL;
+    }
+    if (!read_number(which, &number) || number < 1 || number > PIPPINTERM_CARD_NUMBERS) {
+        fprintf(stderr, "box: %s is not 1 to 8, as the numbers of a card are counted\n", which);
+        return NULL;
+    }
+    if (!read_number(digits, &value)) {
+        fprintf(stderr, "box: %s is no whole number from 0 to 4294967295\n", digits);
+        return NULL;
+    }
+    curve[PIPPINTERM_CURVE_CARD + number - 1] = value;
+    return curve;
+}
+
+static int write_file(const char *path, size_t bytes)
+{
+    FILE *file = fopen(path, "wb");
+    size_t written = file == NULL ? 0 : fwrite(buffer, 1, bytes, file);
+    if (file == NULL || fclose(file) != 0 || written != bytes) {
+        fprintf(stderr, "box: %s cannot be written\n", path);
+        return 2;
+    }
+    return 0;
+}
+
+/* The file is opened only once its bytes stand in the buffer. */
+static int write_list(size_t length, uint32_t curves, const char *path)
+{
+    uint32_t bytes;
+    uint32_t number = pippinterm_write_book(list, PIPPINTERM_CURVE_NUMBERS * curves, text, length,
+                                            buffer, PIPPINTERM_ENOUGH_BOOK, &bytes);
+    if (number != PIPPINTERM_ACCEPTED) {
+        fprintf(stderr, "box: the list is refused, %lu\n", (unsigned long)number);
+        return 1;
+    }
+    return write_file(path, bytes);
+}
+
+/* The book holds a changed card whatever its numbers are, so it is asked here. */
+static void tell_refusal(const uint32_t *curve)
+{
+    const char *name = (const char *)text + curve[PIPPINTERM_CURVE_NAME_PLACE];
+    int size = (int)curve[PIPPINTERM_CURVE_NAME_SIZE];
+    uint32_t number = pippinterm_check_card(curve + PIPPINTERM_CURVE_CARD);
+    if (number == PIPPINTERM_ACCEPTED) {
+        return;
+    }
+    fprintf(stderr, "%.*s: the book is written, but this card is refused, %lu\n", size, name,
+            (unsigned long)number);
+    if (number == PIPPINTERM_REFUSED_CLOTHOID) {
+        tell_lengths(curve, size, name);
+    }
+}
+
+/* Writes the book to the file, after the change where there is one: three words, or NULL. */
+static int write_book(size_t length, const char *path, char **change)
+{
+    const uint32_t *changed = NULL;
+    uint32_t curves;
+    int ended;
+    if (!read_book(length, &curves)) {
+        return 1;
+    }
+    if (change != NULL) {
+        changed = change_card(curves, change[0], change[1], change[2]);
+        if (changed == NULL) {
+            return 2;
+        }
+    }
+    ended = write_list(length, curves, path);
+    if (ended == 0 && changed != NULL) {
+        tell_refusal(changed);
+    }
+    return ended;
+}
+
 int main(int argc, char **argv)
 {
     int by_day = argc == 3 && strcmp(argv[1], "--day") == 0;
-    FILE *book = argc == 2 || by_day ? fopen(argv[argc - 1], "rb") : NULL;
+    int writes = (argc == 4 || argc == 7) && strcmp(argv[1], "--write") == 0;
+    const char *path = argc == 2 ? argv[1] : by_day ? argv[2] : writes ? argv[3] : NULL;
+    FILE *book = path == NULL ? NULL : fopen(path, "rb");
     size_t length;
     int ended;
     if (book == NULL) {
-        fprintf(stderr, "usage: box [--day] BOOK, a file that can be read\n");
+        fprintf(stderr, "usage: box [--day] BOOK, a file that can be read\n"
+                        "       box --write NEW BOOK [NAME NUMBER VALUE]\n");
         return 2;
     }
     length = fread(text, 1, sizeof text, book);
     if (ferror(book)) {
-        fprintf(stderr, "box: %s cannot be read\n", argv[argc - 1]);
+        fprintf(stderr, "box: %s cannot be read\n", path);
         return 2;
     }
     fclose(book);
-    ended = print_book(length, by_day);
+    ended = writes ? write_book(length, argv[2], argc == 7 ? argv + 4 : NULL)
+                   : print_book(length, by_day);
     if (fflush(stdout) != 0 || ferror(stdout)) {
         fprintf(stderr, "box: the tables cannot be written\n");
         return 2;

@@ -60,7 +60,7 @@ extern "C" {
 #define PIPPINTERM_ROW_NUMBERS 7
 
 /* The numbers of a curve in a card list, in their order. */
-#define PIPPINTERM_CURVE_NAME_PLACE 0 /* byte place of the name in the text, from 0 */
+#define PIPPINTERM_CURVE_NAME_PLACE 0 /* byte place of the name in the text or in the names' bytes, from 0 */
 #define PIPPINTERM_CURVE_NAME_SIZE 1  /* how many bytes the name has, 1 to 8 */
 #define PIPPINTERM_CURVE_CARD 2       /* the eight numbers of its card begin here */
 #define PIPPINTERM_CURVE_NUMBERS 10
@@ -217,10 +217,11 @@ uint32_t pippinterm_read_book(const uint8_t *text, size_t text_length,
  * hand over its first 10 x count numbers. The places of the names count in
  * names, which is the text that was read, or any other bytes; names are compared
  * as bytes, wherever they stand.
- * Gives 0 for a list that makes a book: *count is then the count of its bytes,
- * at most 4897, and they stand in the buffer from its start; the later bytes are
- * as they were. Reading these bytes gives the names and the numbers of the list,
- * and a list that was read from a book gives that book's bytes again.
+ * Gives 0 for a list that makes a book which the buffer has room for: *count is
+ * then the count of its bytes, at most 4897, and they stand in the buffer from its
+ * start; the later bytes are as they were. Reading these bytes gives the names and
+ * the numbers of the list, and a list that was read from a book, with the text of
+ * that book as names, gives the book's bytes again.
  * Else gives 31, then 32, then 33, each looked for in the whole list before the
  * next: *count is then 0, and the whole buffer is as it was.
  * A card that would be refused is written all the same: ask pippinterm_check_card.

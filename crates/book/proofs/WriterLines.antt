@@ -1,16 +1,16 @@
 -- The lines of a book curve by curve: their texts and their lengths, as the writer goes through a list.
 -- Assumes nothing.
-use Prim.Native.Nat.{ℕ, zero, suc, _+_, _-_, _*_, _^_, _≤_, _<_}
+use Prim.Native.Nat.{ℕ, zero, suc, _+_, _-_, _*_, _≤_, _<_}
 use mathlib.Core.Path.{_≡_, refl, sym, ap, ap₂, _∙_, subst}
-use mathlib.Core.Bool.{Bool, true, false, cond, _||_, true≢false}
+use mathlib.Core.Bool.{Bool, true, false, cond, _||_}
 use mathlib.Core.List.{List, [], _∷_, _++_}
 use native.Mathlib.Omega.{arith}
 use native.Mathlib.Numerals.{add-one}
 use lib.ListN.{length, getD, take, drop, set, length-append, length-drop, drop-of-length-le}
 use lib.Seq.{take-suc-set, drop-cons, drop-drop, getD-drop, length-take-le}
 use lib.Dec.{ltb}
-use borrow.Author.Tests.{ltb-true, ltb-false, lt-ltb, le-ltb}
-use Rattle.decimal.specs.Decimal.{Each, digitsText, countText}
+use borrow.Author.Tests.{ltb-false}
+use Rattle.decimal.specs.Decimal.{digitsText, countText}
 use Rattle.decimal.proofs.Digits.{text-wider, digits-most}
 use Rattle.decimal.proofs.Choices.{cond-case}
 use Rattle.card_list.specs.declared.NamePlace.{NamePlace}

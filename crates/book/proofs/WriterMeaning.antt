@@ -3,13 +3,13 @@
 use Prim.Native.Nat.{ℕ, zero, suc, _+_, _-_, _*_, _%_, _≤_, _<_}
 use mathlib.Core.Logic.{_↔_}
 use mathlib.Core.Path.{_≡_, refl, sym, ap, ap₂, _∙_, subst}
-use mathlib.Core.Bool.{Bool, true, false, cond, not, _||_, true≢false}
+use mathlib.Core.Bool.{Bool, true, false, not, true≢false}
 use mathlib.Core.List.{List, [], _∷_, _++_, append-assoc, append-nil}
 use native.Mathlib.Omega.{arith}
 use lib.ListN.{length, take, drop, length-append, length-drop}
 use lib.Seq.{take-append-seam, drop-append-seam, take-at, drop-at, length-take-le}
 use lib.Dec.{eqb}
-use borrow.Author.Tests.{ltb-false, le-ltb, eqb-true, eq-eqb, ne-eqb, not-false}
+use borrow.Author.Tests.{ltb-false, le-ltb, eq-eqb}
 use Rattle.decimal.specs.Decimal.{Each}
 use Rattle.card.specs.Words.{_below_, _above_, outside}
 use Rattle.card.specs.Table.{replyBy}
@@ -20,8 +20,8 @@ use Rattle.book.specs.Book.{mostCurves, leastList, acceptedOf, replyToBo
 use Rattle.book.specs.Printed.{Curve, IsName, IsNumber, IsBody, IsBook, Differs, NoTwins, numberText, contentsText, contentsTexts, namesOf, bodiesOf, bookText}
 use Rattle.book.specs.LineMeaning.{Stands}
 use Rattle.book.specs.Meaning.{entries, bookEntries, curveIn, curvesIn}
-use Rattle.book.specs.Writing.{curveCount, curvesOf, bodiesIn, notTens, isWrong, someWrong, sameName, isOneOf, hasTwins, hasLong, someLong, writerTests, writerNumber, replyToList, bufferAfter}
-use Rattle.book.specs.Written.{NameStands, RightList, WrongList, TwinList, SevenDigits, Unwritable, Fits, written, frontOf, WriterTheorem}
+use Rattle.book.specs.Writing.{curveCount, curvesOf, bodiesIn, notTens, isWrong, someWrong, sameName, isOneOf, hasTwins, hasLong, someLong, writerNumber, replyToList, bufferAfter}
+use Rattle.book.specs.Written.{RightList, WrongList, TwinList, SevenDigits, Unwritable, Fits, written, frontOf, WriterTheorem}
 use Rattle.book.specs.declared.BookReply.{BookReply}
 use Rattle.book.proofs.Standing.{stands-front, stands-back}
 use Rattle.book.proofs.BookText.{contents-stand, contentsPlace, bodiesPlace}

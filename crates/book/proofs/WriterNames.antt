@@ -1,6 +1,6 @@
 -- The names of a list of curves: that a test of the writer is met says of each name, and of two, what the words say.
 -- Assumes nothing.
-use Prim.Native.Nat.{ℕ, zero, suc, _+_, _*_, _≤_, _<_}
+use Prim.Native.Nat.{ℕ, zero, suc, _+_, _≤_, _<_}
 use mathlib.Core.Path.{_≡_, refl, sym, ap, ap₂, _∙_, subst}
 use mathlib.Core.Bool.{Bool, true, false, cond, not, _&&_, _||_, true≢false, false≢true}
 use mathlib.Core.List.{List, [], _∷_}
@@ -8,22 +8,22 @@ use native.Mathlib.Omega.{arith}
 use native.Mathlib.Numerals.{add-one}
 use lib.ListN.{length, getD, take, drop, length-drop, drop-of-length-le}
 use lib.Seq.{drop-cons, getD-drop, getD-take, ext-getD, length-take-le}
-use lib.Dec.{eqb, ltb}
-use borrow.Author.Tests.{ltb-true, ltb-false, lt-ltb, le-ltb, eqb-true, eq-eqb, ne-eqb, not-true, not-false}
+use lib.Dec.{eqb}
+use borrow.Author.Tests.{ltb-false, le-ltb, eqb-true, eq-eqb, not-false}
 use Rattle.decimal.specs.Decimal.{Each}
 use Rattle.decimal.proofs.Choices.{cond-case}
 use Rattle.card_list.specs.declared.NamePlace.{NamePlace}
 use Rattle.card_list.specs.List.{curveWidth, namePlaceIn, nameBytes}
 use Rattle.book.specs.Number.{byteAt}
 use Rattle.book.specs.Name.{isNameByte, nameRun, sameBytes}
-use Rattle.book.specs.Printed.{IsName, Differs, NoTwins, namesOf}
+use Rattle.book.specs.Printed.{namesOf}
 use Rattle.book.specs.Meaning.{curveIn, curvesIn}
 use Rattle.book.specs.Reading.{keyFrom, runAt, among}
 use Rattle.book.specs.Writing.{hasOther, isMalformed, isOutside, isWrong, someWrong, sameName, isOneOf, hasTwins}
 use Rattle.book.specs.WriterSteps.{placeKey, nameRead, keysIn, twinKeys}
 use Rattle.book.specs.Written.{NameStands}
 use Rattle.book.specs.declared.text.ReadName.{ReadName}
-use Rattle.book.proofs.Names.{name-byte-inside, run-in}
+use Rattle.book.proofs.Names.{run-in}
 use Rattle.book.proofs.NameText.{NameBytes, run-most, run-bytes}
 use Rattle.book.proofs.TwinText.{same-head}
 use Rattle.book.proofs.Keys.{one-test, same-bytes}

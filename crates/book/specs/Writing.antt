@@ -1,7 +1,7 @@
 -- Document 02, Slip 4, "Write the book as well as read it": "a writer from a list as the reader gives it, ten numbers for every curve, and the
 -- bytes its name places count in, to the book's bytes in a lent buffer". What they are answered, and the buffer afterwards.
 -- Assumes nothing.
-use Prim.Native.Nat.{ℕ, zero, suc, _+_, _*_, _/_, _%_}
+use Prim.Native.Nat.{ℕ, zero, suc, _+_, _/_, _%_}
 use mathlib.Core.List.{List, [], _∷_, _++_}
 use mathlib.Core.Bool.{Bool, true, false, cond, not, _&&_, _||_}
 use lib.Dec.{eqb}

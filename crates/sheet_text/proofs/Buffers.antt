@@ -1,13 +1,12 @@
 -- Laws of a measured text, and of a lent buffer after a text.
 -- Assumes nothing.
-use Prim.Native.Nat.{ℕ, suc, _+_, _≤_, _<_}
+use Prim.Native.Nat.{ℕ, _+_, _≤_, _<_}
 use mathlib.Core.Path.{_≡_, refl, sym, ap, _∙_}
 use mathlib.Core.Bool.{Bool, true, false, cond}
 use mathlib.Core.List.{List, [], _∷_, _++_}
 use native.Mathlib.Omega.{arith}
-use native.Mathlib.Numerals.{add-one}
-use lib.ListN.{length, drop, set, getD, length-append, drop-of-length-le}
-use lib.Seq.{sets, sets-eq, drop-cons}
+use lib.ListN.{length, length-append}
+use lib.Seq.{sets, sets-eq}
 use lib.Dec.{leb}
 use borrow.Author.Tests.{le-leb, lt-leb, leb-true, leb-false}
 use Rattle.decimal.specs.Decimal.{countText}

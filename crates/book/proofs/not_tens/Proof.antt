@@ -1,7 +1,6 @@
 -- `book::not_tens` meets its contract.
 -- Assumes nothing.
 use borrow.Author.Tests.{eq-eqb, ne-eqb, lt-ltb, le-ltb}
-use Rattle.book.specs.Writing.{notTens}
 use Rattle.book.proofs.not_tens.Statement.{statement}
 use Rattle.book.proofs.not_tens.Tie as tie
 

@@ -1,20 +1,20 @@
 -- `book::write_book` meets its contract.
 -- Assumes nothing.
-use Prim.Native.Nat.{ℕ, _+_, _*_, _≤_}
+use Prim.Native.Nat.{ℕ, _*_, _≤_}
 use mathlib.Core.Path.{_≡_, refl, sym, ap, _∙_}
 use mathlib.Core.Bool.{true, false, cond}
 use mathlib.Core.List.{List}
 use native.Mathlib.Omega.{arith}
 use borrow.Author.Needs.{needs}
 use borrow.Author.Tests.{lt-ltb, le-ltb}
-use lib.ListN.{length, take}
-use lib.Seq.{sets, length-take-le}
+use lib.ListN.{length}
+use lib.Seq.{length-take-le}
 use Rattle.card.specs.Words.{_below_}
 use Rattle.card_list.specs.List.{curveWidth}
 use Rattle.book.specs.Book.{mostCurves}
 use Rattle.book.specs.Printed.{bookText}
 use Rattle.book.specs.Writing.{curveCount, curvesOf, bodiesIn, notTens, someWrong, someLong}
-use Rattle.book.specs.WriterSteps.{keysIn, twinKeys}
+use Rattle.book.specs.WriterSteps.{twinKeys}
 use Rattle.book.proofs.BookText.{book-some, book-most}
 use Rattle.book.proofs.WriterNames.{neither-met, second-met, keys-twins}
 use Rattle.book.proofs.WriterReplies.{tens-of, wrongList, twinned, tooLong, answered-wrong, answered-twin, answered-short, number-none, answered-written, size-long, size-whole}

@@ -1,8 +1,7 @@
 -- `decimal::put_bytes` meets its contract.
 -- Assumes nothing.
 use Prim.Native.Nat.{_+_, _≤_}
-use mathlib.Core.Path.{_≡_, refl}
-use mathlib.Core.List.{List}
+use mathlib.Core.Path.{refl}
 use borrow.Author.Needs.{needs}
 use lib.ListN.{length}
 use Rattle.decimal.proofs.Puts.{puts-stored, room-told, puts-nothing}

@@ -1,8 +1,6 @@
 -- `decimal::put_count` meets its contract.
 -- Assumes nothing.
 use Prim.Native.Nat.{_+_, _≤_}
-use mathlib.Core.Path.{_≡_}
-use mathlib.Core.List.{List}
 use borrow.Author.Needs.{needs}
 use lib.ListN.{length}
 use Rattle.decimal.specs.Decimal.{countText}

@@ -1,17 +1,9 @@
 -- `book::list_names::name_in` meets its contract.
 -- Assumes nothing.
-use Prim.Native.Nat.{ℕ, _≤_, _<_}
-use mathlib.Core.Path.{_≡_, refl, sym, ap, _∙_}
-use mathlib.Core.Bool.{true, false}
-use mathlib.Core.List.{List}
+use mathlib.Core.Path.{_≡_, ap, _∙_}
 use native.Mathlib.Omega.{arith}
 use borrow.Author.Needs.{needs}
-use lib.ListN.{length}
-use Rattle.card_list.specs.declared.NamePlace.{NamePlace}
-use Rattle.card_list.specs.List.{namePlaceIn}
 use Rattle.book.specs.Name.{nameRun}
-use Rattle.book.specs.Reading.{runAt}
-use Rattle.book.specs.Writing.{isWrong}
 use Rattle.book.specs.WriterSteps.{nameRead}
 use Rattle.book.specs.declared.text.ReadName.{ReadName}
 use Rattle.book.proofs.WriterNames.{past-wrong, long-wrong, stopped-wrong, read-wrong, read-run}

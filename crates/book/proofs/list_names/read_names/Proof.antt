@@ -1,16 +1,14 @@
 -- `book::list_names::read_names` meets its contract.
 -- Assumes nothing.
-use Prim.Native.Nat.{ℕ, _+_, _-_, _≤_, _<_}
-use mathlib.Core.Path.{_≡_, refl, sym, ap, ap₂, _∙_}
+use Prim.Native.Nat.{ℕ, _+_, _-_, _≤_}
+use mathlib.Core.Path.{_≡_, refl, sym, ap, _∙_}
 use mathlib.Core.Bool.{true, false, true≢false}
-use mathlib.Core.List.{List, [], _∷_, _++_}
 use native.Mathlib.Omega.{arith}
 use borrow.Author.Needs.{needs}
 use lib.ListN.{length, take, set, length-set}
 use Rattle.card_list.specs.List.{namePlaceIn}
-use Rattle.book.specs.Writing.{isWrong, someWrong}
-use Rattle.book.specs.WriterSteps.{placeKey, nameRead, keysIn}
-use Rattle.book.specs.declared.text.ReadName.{ReadName}
+use Rattle.book.specs.Writing.{someWrong}
+use Rattle.book.specs.WriterSteps.{keysIn}
 use Rattle.book.proofs.WriterNames.{read-none, read-some}
 use Rattle.book.proofs.WriterLines.{wrongAfter, wrong-all-left, wrong-none-left, wrong-turn, keys-none, keys-turn}
 use Rattle.book.proofs.list_names.read_names.Statement.{statement}

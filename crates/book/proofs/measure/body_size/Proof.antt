@@ -1,15 +1,12 @@
 -- `book::measure::body_size` meets its contract.
 -- Assumes nothing.
-use Prim.Native.Nat.{ℕ, _+_, _-_, _*_, _≤_, _<_}
+use Prim.Native.Nat.{_+_, _-_, _*_, _≤_}
 use mathlib.Core.Path.{_≡_, refl, sym, ap, _∙_}
-use mathlib.Core.Bool.{Bool, true, false, cond}
-use mathlib.Core.List.{List}
+use mathlib.Core.Bool.{true, false}
 use native.Mathlib.Omega.{arith}
 use borrow.Author.Needs.{needs}
 use borrow.Author.Tests.{lt-ltb, le-ltb}
 use lib.ListN.{length, getD, drop}
-use Rattle.decimal.specs.Decimal.{countText}
-use Rattle.decimal.proofs.Digits.{digits-most}
 use Rattle.book.specs.Printed.{IsNumber, bodyText}
 use Rattle.book.specs.Writing.{hasLong}
 use Rattle.book.specs.WriterSteps.{bodySize}

@@ -1,13 +1,10 @@
 -- `book::measure::book_size` meets its contract.
 -- Assumes nothing.
-use Prim.Native.Nat.{ℕ, _+_, _-_, _*_, _≤_, _<_}
-use mathlib.Core.Path.{_≡_, sym, ap, _∙_}
-use mathlib.Core.List.{List}
+use Prim.Native.Nat.{ℕ, _+_, _-_, _*_, _≤_}
+use mathlib.Core.Path.{ap}
 use native.Mathlib.Omega.{arith}
 use borrow.Author.Needs.{needs}
-use lib.ListN.{length}
 use Rattle.card_list.specs.declared.NamePlace.{NamePlace}
-use Rattle.book.specs.Body.{cardNumbers}
 use Rattle.book.proofs.WriterLines.{bodyIn, body-long, size-none, size-some, SizesAfter, sizes-first, sizes-last, sizes-long, sizes-turn}
 use Rattle.book.proofs.measure.book_size.Statement.{statement}
 use Rattle.book.proofs.measure.book_size.Tie as tie

@@ -1,16 +1,15 @@
 -- `book::write::write_body` meets its contract.
 -- Assumes nothing.
-use Prim.Native.Nat.{ℕ, _+_, _-_, _≤_, _<_}
+use Prim.Native.Nat.{ℕ, _+_, _-_, _≤_}
 use mathlib.Core.Path.{_≡_, refl, sym, ap, _∙_}
 use mathlib.Core.Bool.{false}
-use mathlib.Core.List.{List}
 use native.Mathlib.Omega.{arith}
 use borrow.Author.Needs.{needs}
 use lib.ListN.{length, getD, drop}
 use lib.Seq.{sets}
 use Rattle.decimal.proofs.Stores.{stores-next}
 use Rattle.book.specs.Body.{endOf}
-use Rattle.book.specs.Printed.{IsNumber, numberText, bodyText}
+use Rattle.book.specs.Printed.{numberText, bodyText}
 use Rattle.book.specs.Writing.{hasLong}
 use Rattle.book.proofs.WriterLines.{body-none, long-next, body-turn, body-part-turn}
 use Rattle.book.proofs.write.write_body.Statement.{statement}

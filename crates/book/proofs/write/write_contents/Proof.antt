@@ -10,9 +10,7 @@ use lib.Seq.{sets}
 use Rattle.card_list.specs.declared.NamePlace.{NamePlace}
 use Rattle.card_list.specs.List.{namePlaceIn, nameBytes}
 use Rattle.decimal.proofs.Stores.{stores-next}
-use Rattle.book.specs.Printed.{contentsText, contentsTexts, namesOf}
-use Rattle.book.specs.Meaning.{curvesIn}
-use Rattle.book.specs.Writing.{isWrong}
+use Rattle.book.specs.Printed.{contentsText}
 use Rattle.book.proofs.WriterNames.{right-stands}
 use Rattle.book.proofs.WriterLines.{contentsAfter, contents-all, contents-none, contents-turn, contents-size-turn, wrong-at}
 use Rattle.book.proofs.write.write_contents.Statement.{statement}

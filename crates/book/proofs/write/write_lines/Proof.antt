@@ -1,14 +1,14 @@
 -- `book::write::write_lines` meets its contract.
 -- Assumes nothing.
 use Prim.Native.Nat.{ℕ, _+_, _≤_}
-use mathlib.Core.Path.{_≡_, sym, ap, _∙_}
+use mathlib.Core.Path.{sym, ap, _∙_}
 use mathlib.Core.List.{List, _++_}
 use native.Mathlib.Omega.{arith}
 use borrow.Author.Needs.{needs}
 use lib.ListN.{length}
 use lib.Seq.{sets}
 use Rattle.decimal.proofs.Stores.{then-bytes}
-use Rattle.book.specs.Printed.{IsNumber, numberText, contentsTexts, bodyTexts, namesOf, bookText}
+use Rattle.book.specs.Printed.{numberText, contentsTexts, bodyTexts, namesOf}
 use Rattle.book.specs.Meaning.{curvesIn}
 use Rattle.book.specs.Writing.{bodiesIn}
 use Rattle.book.proofs.WriterLines.{book-lines, book-length}

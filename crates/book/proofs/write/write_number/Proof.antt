@@ -1,14 +1,13 @@
 -- `book::write::write_number` meets its contract.
 -- Assumes nothing.
 use Prim.Native.Nat.{ℕ, _+_, _≤_}
-use mathlib.Core.Path.{_≡_, sym, ap, subst}
+use mathlib.Core.Path.{sym, subst}
 use mathlib.Core.List.{List, [], _∷_, _++_}
 use borrow.Author.Needs.{needs}
 use lib.ListN.{length}
 use Rattle.decimal.specs.Decimal.{countText}
 use Rattle.decimal.proofs.Stores.{Stored}
 use Rattle.decimal.proofs.Puts.{stored-puts}
-use Rattle.book.specs.Printed.{numberText}
 use Rattle.book.proofs.WriterLines.{number-text}
 use Rattle.book.proofs.write.write_number.Statement.{statement}
 use Rattle.book.proofs.write.write_number.Tie as tie

@@ -26,3 +26,4 @@ pub mod WriterNames
 pub mod WriterLines
 pub mod WriterReplies
 pub mod WriterMeaning
+pub mod WriterEdges

@@ -13,7 +13,7 @@ use Rattle.book.specs.Printed.{bodyText, contentsTexts, bodyTexts, bookT
 use Rattle.card.specs.Table.{replyBy}
 use Rattle.card_list.specs.List.{cardFrom, namePlaceIn}
 use Rattle.book.specs.Meaning.{curveIn, curvesIn}
-use Rattle.book.specs.Writing.{bodiesIn, hasOther, isWrong, someWrong, isOneOf, hasTwins, hasLong, someLong, writerNumber, replyToList, bufferAfter}
+use Rattle.book.specs.Writing.{hasOther, isWrong, someWrong, isOneOf, hasTwins, hasLong, someLong, writerNumber, replyToList, bufferAfter}
 use Rattle.book.specs.RampBook.{ramp, RampBook}
 
 -- RAMP is a name, and its eight numbers are a body
@@ -28,5 +28,5 @@ one-curve = record {
 }
 
 pub ramp-book : RampBook
-unfolding digitAt endedAt digitsAt numberAt nameRun nameAt sameBytes twinAt headingAt afterHeading contentsLine bodyFrom numbersAt afterNumbers bodiesFrom contentsFrom textReply replyToBook afterHeadings entryAt entriesFrom entriesOf listAfter digitsText bodyText contentsTexts bodyTexts bookText cardFrom namePlaceIn curveIn curvesIn bodiesIn hasOther isWrong someWrong isOneOf hasTwins hasLong someLong writerNumber replyBy replyToList bufferAfter
+unfolding digitAt endedAt digitsAt numberAt nameRun nameAt sameBytes twinAt headingAt afterHeading contentsLine bodyFrom numbersAt afterNumbers bodiesFrom contentsFrom textReply replyToBook afterHeadings entryAt entriesFrom entriesOf listAfter digitsText bodyText contentsTexts bodyTexts bookText cardFrom namePlaceIn curveIn curvesIn hasOther isWrong someWrong isOneOf hasTwins hasLong someLong writerNumber replyBy replyToList bufferAfter
 ramp-book = record { is-book = one-curve; text = refl; reply = refl; list = refl; writes = refl; buffer = refl; short = refl; hands = refl }

@@ -12,26 +12,26 @@ use lib.Dec.{ltb}
 use borrow.Author.Tests.{ltb-false}
 use Rattle.decimal.specs.Decimal.{digitsText, countText}
 use Rattle.decimal.proofs.Digits.{text-wider, digits-most}
-use Rattle.decimal.proofs.Choices.{cond-case}
+use Rattle.decimal.proofs.Choices.{cond-case, or-none}
 use Rattle.card_list.specs.declared.NamePlace.{NamePlace}
 use Rattle.card_list.specs.List.{curveWidth, namePlaceIn, nameBytes}
 use Rattle.book.specs.Body.{cardNumbers, endOf}
 use Rattle.book.specs.Book.{mostCurves}
 use Rattle.book.specs.Printed.{Curve, IsNumber, numberText, contentsText, contentsTexts, bodyText, bodyTexts, bookText, namesOf, bodiesOf}
 use Rattle.book.specs.Meaning.{curveIn, curvesIn}
-use Rattle.book.specs.Writing.{bodiesIn, isWrong, someWrong, hasLong, someLong}
-use Rattle.book.specs.WriterSteps.{placeKey, keysIn, bodySize, Sizes}
-use Rattle.book.proofs.WriterNames.{or-none, right-stands, name-size}
+use Rattle.book.specs.Writing.{isWrong, someWrong, hasLong, someLong}
+use Rattle.book.specs.WriterSteps.{bodiesIn, placeKey, keysIn, bodySize, Sizes}
+use Rattle.book.proofs.WriterNames.{right-stands, name-size}
 
 -- ---- numbers
 -- a number of at most seven digits has the digits of a count
-pub number-digits : (v : ℕ) → IsNumber v → digitsText 7 v ≡ countText v
+number-digits : (v : ℕ) → IsNumber v → digitsText 7 v ≡ countText v
 number-digits v h = text-wider 6 v h ∙ text-wider 7 v (omega arith) ∙ text-wider 8 v (omega arith)
 
 pub number-text : (v end : ℕ) → IsNumber v → countText v ++ (end ∷ []) ≡ numberText v end
 number-text v end h = ap (λ (t : List ℕ). t ++ (end ∷ [])) (sym (number-digits v h))
 
-pub number-length : (v end : ℕ) → IsNumber v → length (numberText v end) ≡ length (countText v) + 1
+number-length : (v end : ℕ) → IsNumber v → length (numberText v end) ≡ length (countText v) + 1
 number-length v end h = ap length (sym (number-text v end h)) ∙ length-append (countText v) (end ∷ [])
 
 -- and has at most seven of them
@@ -76,7 +76,7 @@ module _ (numbers : List ℕ) (i : ℕ) (inside : i < length numbers) where
       body-part-turn ∙ omega (arith, number-length here (endOf (length numbers - (i + 1))) h)
 
 -- a body with numbers has bytes
-pub body-some : (numbers : List ℕ) → 1 ≤ length numbers → 1 ≤ length (bodyText numbers)
+body-some : (numbers : List ℕ) → 1 ≤ length numbers → 1 ≤ length (bodyText numbers)
 unfolding bodyText
 body-some [] h = absurd (omega arith)
 body-some (v ∷ numbers) h =
@@ -92,21 +92,21 @@ module _ {A : Type 0} (f : ℕ → List ℕ → A) (n : ℕ) (list : List ℕ) (
   pub some-left : i < n → after ≡ f (suc (n - (i + 1))) (drop (curveWidth * i) list)
   some-left h = let k : n - i ≡ suc (n - (i + 1)) = omega arith in ap (λ (m : ℕ). f m (drop (curveWidth * i) list)) k
 
-  pub no-curve-left : n ≤ i → after ≡ f 0 (drop (curveWidth * i) list)
+  no-curve-left : n ≤ i → after ≡ f 0 (drop (curveWidth * i) list)
   no-curve-left h = let k : n - i ≡ 0 = omega arith in ap (λ (m : ℕ). f m (drop (curveWidth * i) list)) k
 
 -- before the first curve all are left
-pub all-left : {A : Type 0} (f : ℕ → List ℕ → A) (n : ℕ) (list : List ℕ) → after f n list 0 ≡ f n list
+all-left : {A : Type 0} (f : ℕ → List ℕ → A) (n : ℕ) (list : List ℕ) → after f n list 0 ≡ f n list
 all-left f n list = let k : n - 0 ≡ n = omega arith in ap (λ (m : ℕ). f m list) k
 
 -- ten numbers on
-pub ten-on : (list : List ℕ) (i : ℕ) → drop curveWidth (drop (curveWidth * i) list) ≡ drop (curveWidth * (i + 1)) list
+ten-on : (list : List ℕ) (i : ℕ) → drop curveWidth (drop (curveWidth * i) list) ≡ drop (curveWidth * (i + 1)) list
 ten-on list i =
     let k : curveWidth * i + curveWidth ≡ curveWidth * (i + 1) = omega arith in
     drop-drop curveWidth (curveWidth * i) list ∙ ap (λ (m : ℕ). drop m list) k
 
 -- the place of a name further on
-pub place-there : (list : List ℕ) (k i : ℕ) → namePlaceIn (drop (curveWidth * k) list) i ≡ namePlaceIn list (k + i)
+place-there : (list : List ℕ) (k i : ℕ) → namePlaceIn (drop (curveWidth * k) list) i ≡ namePlaceIn list (k + i)
 unfolding namePlaceIn
 place-there list k i =
     let p : curveWidth * k + curveWidth * i ≡ curveWidth * (k + i) = omega arith in
@@ -119,7 +119,7 @@ place-there list k i =
 pub place-next : (list : List ℕ) (i : ℕ) → namePlaceIn (drop curveWidth list) i ≡ namePlaceIn list (suc i)
 place-next list i = let k : 1 + i ≡ suc i = omega arith in place-there list 1 i ∙ ap (namePlaceIn list) k
 
-pub place-here : (list : List ℕ) (i : ℕ) → namePlaceIn (drop (curveWidth * i) list) 0 ≡ namePlaceIn list i
+place-here : (list : List ℕ) (i : ℕ) → namePlaceIn (drop (curveWidth * i) list) 0 ≡ namePlaceIn list i
 place-here list i = let k : i + 0 ≡ i = omega arith in place-there list i 0 ∙ ap (namePlaceIn list) k
 
 -- no key, and one key more
@@ -270,7 +270,7 @@ module _ (n : ℕ) (names list : List ℕ) where
   book-length = ap length book-lines ∙ length-append (numberText n 10) _ ∙ ap (λ (k : ℕ). length (numberText n 10) + k) (length-append (contentsTexts (n + 2) (namesOf (curvesIn n names list))) _)
 
 -- a contents line whose name stands in the bytes
-pub heading-length : (names : List ℕ) (at : NamePlace) (line : ℕ) → isWrong names at ≡ false → IsNumber line
+heading-length : (names : List ℕ) (at : NamePlace) (line : ℕ) → isWrong names at ≡ false → IsNumber line
     → length (contentsText (nameBytes names at) line) ≡ at .size + length (countText line) + 2
 heading-length names at line e h =
     length-append (nameBytes names at) (32 ∷ numberText line 10)

@@ -6,29 +6,44 @@ use mathlib.Core.Path.{_≡_, refl, sym, ap, ap₂, _∙_, subst}
 use mathlib.Core.Bool.{Bool, true, false, not, true≢false}
 use mathlib.Core.List.{List, [], _∷_, _++_, append-assoc, append-nil}
 use native.Mathlib.Omega.{arith}
-use lib.ListN.{length, take, drop, length-append, length-drop}
-use lib.Seq.{take-append-seam, drop-append-seam, take-at, drop-at, length-take-le}
+use lib.ListN.{length, getD, take, drop, length-append, length-drop}
+use lib.Seq.{take-append-seam, drop-append-seam, take-at, drop-at, drop-drop, length-take-le}
 use lib.Dec.{eqb}
 use borrow.Author.Tests.{ltb-false, le-ltb, eq-eqb}
 use Rattle.decimal.specs.Decimal.{Each}
+use Rattle.decimal.proofs.Choices.{or-none, neither-met, not-met}
 use Rattle.card.specs.Words.{_below_, _above_, outside}
 use Rattle.card.specs.Table.{replyBy}
 use Rattle.card_list.specs.declared.NamePlace.{NamePlace}
-use Rattle.card_list.specs.List.{curveWidth, namePlaceIn}
+use Rattle.card_list.specs.List.{curveWidth, namePlaceIn, nameBytes}
 use Rattle.book.specs.Body.{cardNumbers}
 use Rattle.book.specs.Book.{mostCurves, leastList, acceptedOf, replyToBook, listAfter}
 use Rattle.book.specs.Printed.{Curve, IsName, IsNumber, IsBody, IsBook, Differs, NoTwins, numberText, contentsText, contentsTexts, namesOf, bodiesOf, bookText}
 use Rattle.book.specs.LineMeaning.{Stands}
 use Rattle.book.specs.Meaning.{entries, bookEntries, curveIn, curvesIn}
-use Rattle.book.specs.Writing.{curveCount, curvesOf, bodiesIn, notTens, isWrong, someWrong, sameName, isOneOf, hasTwins, hasLong, someLong, writerNumber, replyToList, bufferAfter}
-use Rattle.book.specs.Written.{RightList, WrongList, TwinList, SevenDigits, Unwritable, Fits, written, frontOf, WriterTheorem}
+use Rattle.book.specs.Writing.{curveCount, curvesOf, notTens, isWrong, someWrong, sameName, isOneOf, hasTwins, hasLong, someLong, wrongList, twinned, tooLong, writerNumber, replyToList, bufferAfter}
+use Rattle.book.specs.WriterSteps.{bodiesIn}
+use Rattle.book.specs.Written.{RightList, WrongList, TwinList, Unwritable, Fits, written, frontOf, ownCurve, WriterTheorem}
 use Rattle.book.specs.declared.BookReply.{BookReply}
 use Rattle.book.proofs.Standing.{stands-front, stands-back}
 use Rattle.book.proofs.BookText.{contents-stand, contentsPlace, bodiesPlace}
 use Rattle.book.proofs.BookMeaning.{meaning}
-use Rattle.book.proofs.WriterNames.{or-none, neither-met, not-met, right-stands, stands-right, same-is, same-self}
-use Rattle.book.proofs.WriterReplies.{tens-of, given, wrongList, twinned, tooLong, number-is, refused, reply-is, buffer-is}
+use Rattle.book.proofs.WriterNames.{right-stands, stands-right, same-is, same-self}
+use Rattle.book.proofs.WriterReplies.{tens-of, given, number-is, refused, reply-is, buffer-is}
 use Rattle.book.proofs.WriterLines.{place-next, wrong-at, curves-count, curves-bodies}
+
+-- ---- the curves of a list are its own
+own-at : (n : ℕ) (names list : List ℕ) (i : ℕ) (other : Curve) → i < n → getD (curvesIn n names list) i other ≡ ownCurve list names i
+unfolding curvesIn curveIn
+own-at zero names list i other h = absurd (omega arith)
+own-at (suc n) names list zero other h = refl
+own-at (suc n) names list (suc i) other h =
+    let k : curveWidth + (curveWidth * i + 2) ≡ curveWidth * suc i + 2 = omega arith in
+    own-at n names (drop curveWidth list) i other (omega arith)
+    ∙ (λ j. record {
+      name = nameBytes names (place-next list i j);
+      numbers = take cardNumbers ((drop-drop (curveWidth * i + 2) curveWidth list ∙ ap (λ (m : ℕ). drop m list) k) j);
+    })
 
 -- ---- the first of three tests that is met
 given-first : (a b c : Bool) → given a b c ≡ 31 → a ≡ true
@@ -110,20 +125,20 @@ unfolding hasLong Each
 no-long [] e = tt
 no-long (v ∷ numbers) e = let both = or-none _ _ e in (omega (arith, ltb-false 9999999 v (both .0)), no-long numbers (both .1))
 
-long-none : (numbers : List ℕ) → Each IsNumber numbers → hasLong numbers ≡ false
+not-long : (numbers : List ℕ) → Each IsNumber numbers → hasLong numbers ≡ false
 unfolding hasLong Each
-long-none [] h = refl
-long-none (v ∷ numbers) h = neither-met _ _ (le-ltb 9999999 v (omega (arith, h .0))) (long-none numbers (h .1))
+not-long [] h = refl
+not-long (v ∷ numbers) h = neither-met _ _ (le-ltb 9999999 v (omega (arith, h .0))) (not-long numbers (h .1))
 
 no-longs : (bodies : List (List ℕ)) → someLong bodies ≡ false → Each (Each IsNumber) bodies
 unfolding someLong Each
 no-longs [] e = tt
 no-longs (numbers ∷ bodies) e = let both = or-none _ _ e in (no-long numbers (both .0), no-longs bodies (both .1))
 
-longs-none : (bodies : List (List ℕ)) → Each (Each IsNumber) bodies → someLong bodies ≡ false
+none-long : (bodies : List (List ℕ)) → Each (Each IsNumber) bodies → someLong bodies ≡ false
 unfolding someLong Each
-longs-none [] h = refl
-longs-none (numbers ∷ bodies) h = neither-met _ _ (long-none numbers (h .0)) (longs-none bodies (h .1))
+none-long [] h = refl
+none-long (numbers ∷ bodies) h = neither-met _ _ (not-long numbers (h .0)) (none-long bodies (h .1))
 
 -- ---- the names and the bodies of a list that is not wrong
 names-known : (n : ℕ) (names list : List ℕ) → someWrong n names list ≡ false → Each IsName (namesOf (curvesIn n names list))
@@ -171,12 +186,6 @@ module _ (list names : List ℕ) where
       neither-met (notTens (length list)) (someWrong n names list) (tens .1)
       (wrong-all n names list (λ i l. stands-right names (namePlaceIn list i) (r .named i (omega (arith, tens .0)))))
 
-  seven : someLong (bodiesIn n list) ≡ false → SevenDigits list names
-  seven e = rw (curves-bodies n names list) (no-longs (bodiesIn n list) e)
-
-  digits : SevenDigits list names → someLong (bodiesIn n list) ≡ false
-  digits h = longs-none (bodiesIn n list) (rw (curves-bodies n names list) at h)
-
   module _ (room : ℕ) where
     abbrev unwritable : Bool
     unwritable = tooLong list names room
@@ -206,11 +215,11 @@ module _ (list names : List ℕ) where
             n = n;
             right = right-list (g .0);
             twins = no-twins (namesOf curves) (g .1 .0);
-            short = λ s l. true≢false (sym (g .1 .1) ∙ neither-met _ _ (le-ltb _ _ l) (digits s));
+            short = λ s l. true≢false (sym (g .1 .1) ∙ neither-met _ _ (le-ltb _ _ l) (none-long (bodiesOf curves) s));
           },
       λ w. let a : wrong ≡ false = list-right (w .n) (w .right) in
           let b : twins ≡ false = twins-none (namesOf curves) (w .twins) in
-          let c : unwritable ≡ true = not-met unwritable (λ f. let both = or-none _ _ f in w .short (seven (both .1)) (ltb-false _ _ (both .0))) in
+          let c : unwritable ≡ true = not-met unwritable (λ f. let both = or-none _ _ f in w .short (no-longs (bodiesOf curves) (both .1)) (ltb-false _ _ (both .0))) in
           number ∙ rw (a, b, c),
     )
 
@@ -222,12 +231,12 @@ module _ (list names : List ℕ) where
             n = n;
             right = right-list (g .0);
             twins = no-twins (namesOf curves) (g .1 .0);
-            numbers = seven (both .1);
+            numbers = no-longs (bodiesOf curves) (both .1);
             long = ltb-false _ _ (both .0);
           },
       λ w. let a : wrong ≡ false = list-right (w .n) (w .right) in
           let b : twins ≡ false = twins-none (namesOf curves) (w .twins) in
-          let c : unwritable ≡ false = neither-met _ _ (le-ltb _ _ (w .long)) (digits (w .numbers)) in
+          let c : unwritable ≡ false = neither-met _ _ (le-ltb _ _ (w .long)) (none-long (bodiesOf curves) (w .numbers)) in
           number ∙ rw (a, b, c),
     )
 
@@ -237,13 +246,13 @@ module _ (list names : List ℕ) where
         let g = given-none wrong twins unwritable (sym number ∙ e) in
         let r = right-list (g .0) in
         let w = or-none (notTens (length list)) (someWrong n names list) (g .0) in
-        let both = or-none (room below length (bookText curves)) (someLong (bodiesIn n list)) (g .1 .1) in
+        let both = or-none (room below length (bookText curves)) (someLong (bodiesOf curves)) (g .1 .1) in
         let count = curves-count n names list in
         record {
           some = omega (arith, count, r .some);
           few = omega (arith, count, r .few);
           names = names-known n names list (w .1);
-          bodies = rw (curves-bodies n names list) (eights n list (omega (arith, r .ten)) (no-longs (bodiesIn n list) (both .1)));
+          bodies = rw (curves-bodies n names list) (eights n list (omega (arith, r .ten)) (rw (curves-bodies n names list) at (no-longs (bodiesOf curves) (both .1))));
           twins = no-twins (namesOf curves) (g .1 .0);
         }
 
@@ -378,12 +387,18 @@ written-back text lent buffer e h =
 
 pub writer-meaning : WriterTheorem
 writer-meaning = record {
+  own = λ list names. record { count = curves-count (curveCount (length list)) names list; curve = own-at (curveCount (length list)) names list };
   wrong = says-wrong;
   twin = says-twin;
   short = says-short;
   fits = says-fits;
   refused = refused;
-  book = λ list names buffer e. (is-book list names (length buffer) e, (written-is list names buffer e, later-kept list names buffer e));
+  book = λ list names buffer e. record {
+    book = is-book list names (length buffer) e;
+    reply = reply-is list names buffer e;
+    bytes = written-is list names buffer e;
+    later = later-kept list names buffer e;
+  };
   reads = λ list names buffer lent e room. reads list names buffer e lent room;
   back = written-back;
 }

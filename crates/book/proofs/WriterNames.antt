@@ -11,7 +11,7 @@ use lib.Seq.{drop-cons, getD-drop, getD-take, ext-getD, length-take-le}
 use lib.Dec.{eqb}
 use borrow.Author.Tests.{ltb-false, le-ltb, eqb-true, eq-eqb, not-false}
 use Rattle.decimal.specs.Decimal.{Each}
-use Rattle.decimal.proofs.Choices.{cond-case}
+use Rattle.decimal.proofs.Choices.{cond-case, or-none, neither-met, not-met}
 use Rattle.card_list.specs.declared.NamePlace.{NamePlace}
 use Rattle.card_list.specs.List.{curveWidth, namePlaceIn, nameBytes}
 use Rattle.book.specs.Number.{byteAt}
@@ -27,22 +27,6 @@ use Rattle.book.proofs.Names.{run-in}
 use Rattle.book.proofs.NameText.{NameBytes, run-most, run-bytes}
 use Rattle.book.proofs.TwinText.{same-head}
 use Rattle.book.proofs.Keys.{one-test, same-bytes}
-
--- ---- tests joined by "or"
-pub or-none : (a b : Bool) → (a || b) ≡ false → (a ≡ false) × (b ≡ false)
-or-none true b e = absurd (true≢false e)
-or-none false b e = (refl, e)
-
-pub neither-met : (a b : Bool) → a ≡ false → b ≡ false → (a || b) ≡ false
-neither-met a b p q = rw (p, q)
-
-pub second-met : (a b : Bool) → b ≡ true → (a || b) ≡ true
-second-met true b q = refl
-second-met false b q = q
-
-pub not-met : (b : Bool) → (b ≡ false → ⊥) → b ≡ true
-not-met true h = refl
-not-met false h = absurd (h refl)
 
 -- ---- one name
 no-other : (name : List ℕ) → hasOther name ≡ false → NameBytes name
@@ -98,7 +82,7 @@ module _ (names : List ℕ) (at : NamePlace) where
   run = nameRun (at .size) names (at .place)
 
   -- a name that is not wrong is counted whole
-  pub right-run : isWrong names at ≡ false → run ≡ at .size
+  right-run : isWrong names at ≡ false → run ≡ at .size
   right-run e = let s = right-stands names at e in run-full names (at .size) (at .place) (s .inside) (s .name .bytes)
 
   -- so one that begins past the bytes, has more than eight, or is not counted whole is wrong
@@ -112,11 +96,11 @@ module _ (names : List ℕ) (at : NamePlace) where
   stopped-wrong h = not-met _ (λ e. omega (arith, right-run e))
 
   -- one without bytes too
-  pub empty-wrong : at .size ≡ 0 → isWrong names at ≡ true
+  empty-wrong : at .size ≡ 0 → isWrong names at ≡ true
   empty-wrong z = not-met _ (λ e. let s = right-stands names at e in omega (arith, name-size names at (s .inside), s .name .some))
 
   -- and one of one to eight bytes that is counted whole is not
-  pub run-right : at .place ≤ length names → at .size ≤ 8 → at .size ≤ run → 1 ≤ at .size → isWrong names at ≡ false
+  run-right : at .place ≤ length names → at .size ≤ 8 → at .size ≤ run → 1 ≤ at .size → isWrong names at ≡ false
   run-right inside short whole some =
       let n : run ≡ at .size = omega (arith, run-most names (at .size) (at .place)) in
       let within : at .place + at .size ≤ length names = omega (arith, run-in names (at .size) (at .place) inside) in
@@ -225,11 +209,6 @@ keys-twins zero names list e = refl
 keys-twins (suc n) names list e =
     let both = or-none _ _ e in
     rw (among-names n names (drop curveWidth list) (namePlaceIn list 0) (both .0) (both .1), keys-twins n names (drop curveWidth list) (both .1))
-    (cond-is (isOneOf (nameBytes names (namePlaceIn list 0)) (namesOf (curvesIn n names (drop curveWidth list)))) (hasTwins (namesOf (curvesIn n names (drop curveWidth list)))))
-  where
-    cond-is : (a b : Bool) → cond a true b ≡ (a || b)
-    cond-is true b = refl
-    cond-is false b = refl
 
 -- ---- keys one by one
 module _ (keys : List ℕ) (i : ℕ) where
@@ -242,13 +221,13 @@ module _ (keys : List ℕ) (i : ℕ) where
   module _ (some : i < length keys) where
     pub twin-here : among (drop (i + 1) keys) (getD keys i 0) ≡ true → twinKeys (drop i keys) ≡ true
     unfolding twinKeys
-    twin-here t = ap twinKeys (drop-cons keys i 0 some) ∙ ap (λ (b : Bool). cond b true (twinKeys (drop (suc i) keys))) (rw (add-one i) at t)
+    twin-here t = ap twinKeys (drop-cons keys i 0 some) ∙ ap (λ (b : Bool). b || twinKeys (drop (suc i) keys)) (rw (add-one i) at t)
 
     pub twin-turn : among (drop (i + 1) keys) (getD keys i 0) ≡ false → twinKeys (drop i keys) ≡ twinKeys (drop (i + 1) keys)
     unfolding twinKeys
     twin-turn t =
         ap twinKeys (drop-cons keys i 0 some)
-        ∙ ap (λ (b : Bool). cond b true (twinKeys (drop (suc i) keys))) (rw (add-one i) at t)
+        ∙ ap (λ (b : Bool). b || twinKeys (drop (suc i) keys)) (rw (add-one i) at t)
         ∙ ap (λ (k : ℕ). twinKeys (drop k keys)) (sym (add-one i))
 
 -- ---- a name as it is read

@@ -2,22 +2,21 @@
 -- Assumes nothing.
 use Prim.Native.Nat.{ℕ, _+_, _*_, _%_, _≤_}
 use mathlib.Core.Path.{_≡_, refl, sym, ap, _∙_}
-use mathlib.Core.Bool.{Bool, true, false, cond, not, _||_}
+use mathlib.Core.Bool.{Bool, true, false, cond, not}
 use mathlib.Core.List.{List, _++_}
 use native.Mathlib.Omega.{arith}
 use lib.Dec.{eqb}
 use lib.ListN.{length, drop}
 use lib.Seq.{sets, sets-eq}
 use borrow.Author.Tests.{ltb-false, eqb-true, eq-eqb, ne-eqb, not-false}
-use Rattle.decimal.proofs.Choices.{cond-case}
+use Rattle.decimal.proofs.Choices.{cond-case, or-none}
 use Rattle.card.specs.declared.Reply.{Reply}
 use Rattle.card.specs.Words.{_below_, _above_, outside}
 use Rattle.card.specs.Table.{replyBy}
 use Rattle.card_list.specs.List.{curveWidth}
 use Rattle.book.specs.Book.{mostCurves}
-use Rattle.book.specs.Printed.{Curve, namesOf, bookText}
-use Rattle.book.specs.Writing.{curveCount, curvesOf, bodiesIn, notTens, someWrong, hasTwins, someLong, writerNumber, replyToList, bufferAfter}
-use Rattle.book.proofs.WriterNames.{or-none}
+use Rattle.book.specs.Printed.{Curve, bodiesOf, bookText}
+use Rattle.book.specs.Writing.{curveCount, curvesOf, notTens, someLong, wrongList, twinned, tooLong, writerNumber, replyToList, bufferAfter}
 
 -- ten numbers for each of 1 to 64 curves
 pub tens-of : (size : ℕ) → notTens size ≡ false → (size ≡ curveWidth * curveCount size) × ((1 ≤ curveCount size) × (curveCount size ≤ mostCurves))
@@ -33,23 +32,10 @@ module _ (a b c : Bool) where
   given = cond a 31 (cond b 32 (cond c 33 0))
 
 module _ (list names : List ℕ) where
-  abbrev n : ℕ
-  n = curveCount (length list)
-
   abbrev curves : List Curve
   curves = curvesOf list names
 
-  -- 31, 32 and 33, as tests
-  abbrev pub wrongList : Bool
-  wrongList = notTens (length list) || someWrong n names list
-
-  abbrev pub twinned : Bool
-  twinned = hasTwins (namesOf curves)
-
-  abbrev pub tooLong : ℕ → Bool
-  tooLong room = room below length (bookText curves) || someLong (bodiesIn n list)
-
-  pub number-is : (room : ℕ) → writerNumber list names room ≡ given wrongList twinned (tooLong room)
+  pub number-is : (room : ℕ) → writerNumber list names room ≡ given (wrongList list names) (twinned list names) (tooLong list names room)
   unfolding writerNumber
   number-is room = refl
 
@@ -80,17 +66,17 @@ module _ (list names : List ℕ) where
           let both = refused (λ z. some (sym e ∙ z)) in
           (r ∙ ap (λ (k : ℕ). replyBy k 0) (sym e) ∙ sym (both .0), sym (both .1))
 
-      pub answered-wrong : wrongList ≡ true → reply ≡ replyBy 31 0 → Answered buffer reply buffer
+      pub answered-wrong : wrongList list names ≡ true → reply ≡ replyBy 31 0 → Answered buffer reply buffer
       answered-wrong a r = answered-refused 31 (number-is (length buffer) ∙ rw a) (λ z. omega arith) r
 
-      pub answered-twin : wrongList ≡ false → twinned ≡ true → reply ≡ replyBy 32 0 → Answered buffer reply buffer
+      pub answered-twin : wrongList list names ≡ false → twinned list names ≡ true → reply ≡ replyBy 32 0 → Answered buffer reply buffer
       answered-twin a b r = answered-refused 32 (number-is (length buffer) ∙ rw (a, b)) (λ z. omega arith) r
 
-      pub answered-short : wrongList ≡ false → twinned ≡ false → tooLong (length buffer) ≡ true → reply ≡ replyBy 33 0 → Answered buffer reply buffer
+      pub answered-short : wrongList list names ≡ false → twinned list names ≡ false → tooLong list names (length buffer) ≡ true → reply ≡ replyBy 33 0 → Answered buffer reply buffer
       answered-short a b c r = answered-refused 33 (number-is (length buffer) ∙ rw (a, b, c)) (λ z. omega arith) r
 
     -- a book that fits
-    module _ (a : wrongList ≡ false) (b : twinned ≡ false) (c : tooLong (length buffer) ≡ false) where
+    module _ (a : wrongList list names ≡ false) (b : twinned list names ≡ false) (c : tooLong list names (length buffer) ≡ false) where
       pub number-none : writerNumber list names (length buffer) ≡ 0
       number-none = number-is (length buffer) ∙ rw (a, b, c)
 
@@ -98,7 +84,8 @@ module _ (list names : List ℕ) where
           → after ≡ sets buffer 0 (bookText curves) → Answered buffer reply after
       unfolding replyBy
       answered-written p q s =
-          let room : length (bookText curves) ≤ length buffer = ltb-false _ _ (or-none _ _ c .0) in
+          let both = or-none (length buffer below length (bookText curves)) (someLong (bodiesOf curves)) c in
+          let room : length (bookText curves) ≤ length buffer = ltb-false (length buffer) (length (bookText curves)) (both .0) in
           let z : 0 + length (bookText curves) ≡ length (bookText curves) = omega arith in (
             (λ i. record { number = p i; count = q i }) ∙ sym (reply-is number-none),
             s ∙ sets-eq (bookText curves) buffer 0 (omega arith) ∙ ap (λ (k : ℕ). bookText curves ++ drop k buffer) z ∙ sym (buffer-is number-none),

@@ -13,3 +13,4 @@ pub mod RampBook
 pub mod Writing
 pub mod WriterSteps
 pub mod Written
+pub mod WriterReadings

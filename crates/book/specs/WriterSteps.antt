@@ -3,15 +3,21 @@
 use Prim.Native.Nat.{ℕ, zero, suc}
 use mathlib.Core.Path.{_≡_}
 use mathlib.Core.List.{List, [], _∷_}
-use mathlib.Core.Bool.{Bool, true, false, cond}
-use lib.ListN.{length, drop}
+use mathlib.Core.Bool.{Bool, false, cond, _||_}
+use lib.ListN.{length, take, drop}
 use Rattle.card_list.specs.declared.NamePlace.{NamePlace}
 use Rattle.card_list.specs.List.{curveWidth, namePlaceIn}
+use Rattle.book.specs.Body.{cardNumbers}
 use Rattle.book.specs.Printed.{bodyText, bookText}
 use Rattle.book.specs.Meaning.{curvesIn}
 use Rattle.book.specs.Reading.{keyFrom, among}
-use Rattle.book.specs.Writing.{bodiesIn, isWrong, someWrong, hasLong, someLong}
+use Rattle.book.specs.Writing.{isWrong, someWrong, hasLong, someLong}
 use Rattle.book.specs.declared.text.ReadName.{ReadName}
+
+-- the eight numbers of each of the first n curves of a list
+unfoldable pub bodiesIn : ℕ → List ℕ → List (List ℕ)
+bodiesIn zero list = []
+bodiesIn (suc n) list = take cardNumbers (drop 2 list) ∷ bodiesIn n (drop curveWidth list)
 
 -- the key of the name at a place
 abbrev pub placeKey : List ℕ → NamePlace → ℕ
@@ -29,7 +35,7 @@ keysIn (suc n) names list = placeKey names (namePlaceIn list 0) ∷ keysIn n nam
 -- whether a key stands twice
 unfoldable pub twinKeys : List ℕ → Bool
 twinKeys [] = false
-twinKeys (key ∷ keys) = cond (among keys key) true (twinKeys keys)
+twinKeys (key ∷ keys) = among keys key || twinKeys keys
 
 -- how many bytes a body has; 0 with a number above seven digits
 unfoldable pub bodySize : List ℕ → ℕ

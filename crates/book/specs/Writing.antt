@@ -5,7 +5,7 @@ use Prim.Native.Nat.{ℕ, zero, suc, _+_, _/_, _%_}
 use mathlib.Core.List.{List, [], _∷_, _++_}
 use mathlib.Core.Bool.{Bool, true, false, cond, not, _&&_, _||_}
 use lib.Dec.{eqb}
-use lib.ListN.{length, take, drop}
+use lib.ListN.{length, drop}
 use Rattle.card.specs.declared.Reply.{Reply}
 use Rattle.card.specs.Words.{_below_, _above_, outside}
 use Rattle.card.specs.Reasons.{Test, test, first}
@@ -13,9 +13,8 @@ use Rattle.card.specs.Table.{replyBy}
 use Rattle.card_list.specs.declared.NamePlace.{NamePlace}
 use Rattle.card_list.specs.List.{curveWidth, namePlaceIn, nameBytes}
 use Rattle.book.specs.Name.{isNameByte}
-use Rattle.book.specs.Body.{cardNumbers}
 use Rattle.book.specs.Book.{mostCurves}
-use Rattle.book.specs.Printed.{Curve, namesOf, bookText}
+use Rattle.book.specs.Printed.{Curve, namesOf, bodiesOf, bookText}
 use Rattle.book.specs.Meaning.{curvesIn}
 
 -- how many curves a list of `size` numbers has, ten numbers each
@@ -26,16 +25,11 @@ curveCount size = size / curveWidth
 abbrev pub curvesOf : List ℕ → List ℕ → List Curve
 curvesOf list names = curvesIn (curveCount (length list)) names list
 
--- the eight numbers of each of the first n curves of a list
-unfoldable pub bodiesIn : ℕ → List ℕ → List (List ℕ)
-bodiesIn zero list = []
-bodiesIn (suc n) list = take cardNumbers (drop 2 list) ∷ bodiesIn n (drop curveWidth list)
-
 -- 31: "a list length not ten times 1 to 64"
 abbrev pub notTens : ℕ → Bool
 notTens size = not (eqb (size % curveWidth) 0) || outside (curveCount size) 1 mostCurves
 
--- 31: "a malformed name": not of 1 to 8 bytes, or with a byte that is no capital and no digit
+-- 31: "a malformed name": with a byte that is no capital and no digit, or not of 1 to 8 bytes
 unfoldable pub hasOther : List ℕ → Bool
 hasOther [] = false
 hasOther (b ∷ name) = not (isNameByte b) || hasOther name
@@ -79,13 +73,24 @@ unfoldable pub someLong : List (List ℕ) → Bool
 someLong [] = false
 someLong (numbers ∷ bodies) = hasLong numbers || someLong bodies
 
--- "It refuses with 31 ..., with 32 ... and with 33 ..., tested in that order", each over the whole list; the buffer has `room` bytes
+-- each over the whole list: "a list length not ten times 1 to 64, a malformed name or one outside those bytes"
+abbrev pub wrongList : List ℕ → List ℕ → Bool
+wrongList list names = notTens (length list) || someWrong (curveCount (length list)) names list
+
+-- "a twin name"
+abbrev pub twinned : List ℕ → List ℕ → Bool
+twinned list names = hasTwins (namesOf (curvesOf list names))
+
+-- "a buffer that is shorter than the book or a number above seven digits"; the buffer has `room` bytes
+abbrev pub tooLong : List ℕ → List ℕ → ℕ → Bool
+tooLong list names room = room below length (bookText (curvesOf list names)) || someLong (bodiesOf (curvesOf list names))
+
+-- "It refuses with 31 ..., with 32 ... and with 33 ..., tested in that order"
 abbrev pub writerTests : List ℕ → List ℕ → ℕ → List Test
 writerTests list names room =
-    test 31 (notTens (length list) || someWrong (curveCount (length list)) names list) ∷
-    test 32 (hasTwins (namesOf (curvesOf list names))) ∷
-    -- "a buffer that is shorter than the book or a number above seven digits"
-    test 33 (room below length (bookText (curvesOf list names)) || someLong (bodiesIn (curveCount (length list)) list)) ∷ []
+    test 31 (wrongList list names) ∷
+    test 32 (twinned list names) ∷
+    test 33 (tooLong list names room) ∷ []
 
 unfoldable pub writerNumber : List ℕ → List ℕ → ℕ → ℕ
 writerNumber list names room = first (writerTests list names room)

@@ -5,13 +5,14 @@ use Prim.Native.Nat.{ℕ, _+_, _*_, _≤_, _<_}
 use mathlib.Core.Logic.{_↔_}
 use mathlib.Core.Path.{_≡_}
 use mathlib.Core.List.{List, _++_}
-use lib.ListN.{length, take, drop}
+use lib.ListN.{length, getD, take, drop}
 use Rattle.decimal.specs.Decimal.{Each}
 use Rattle.card.specs.Table.{replyBy}
 use Rattle.card_list.specs.declared.NamePlace.{NamePlace}
-use Rattle.card_list.specs.List.{curveWidth, namePlaceIn, nameBytes}
+use Rattle.card_list.specs.List.{curveWidth, namePlaceIn, nameBytes, nameIn}
+use Rattle.book.specs.Body.{cardNumbers}
 use Rattle.book.specs.Book.{mostCurves, leastList, acceptedOf, replyToBook, listAfter}
-use Rattle.book.specs.Printed.{IsName, IsNumber, NoTwins, IsBook, namesOf, bodiesOf, bookText}
+use Rattle.book.specs.Printed.{Curve, IsName, IsNumber, NoTwins, IsBook, namesOf, bodiesOf, bookText}
 use Rattle.book.specs.Meaning.{curvesIn}
 use Rattle.book.specs.Writing.{curveCount, curvesOf, writerNumber, replyToList, bufferAfter}
 
@@ -64,8 +65,25 @@ written list names buffer = take ((replyToList list names (length buffer)) .coun
 abbrev pub frontOf : List ℕ → List ℕ → List ℕ
 frontOf text list = take (curveWidth * (replyToBook text (length list)) .count) (listAfter text list)
 
+-- a curve of a list, counted from 0: the bytes at the place of its name, and the eight numbers behind place and length
+abbrev pub ownCurve : List ℕ → List ℕ → ℕ → Curve
+ownCurve list names i = record { name = nameIn names list i; numbers = take cardNumbers (drop (curveWidth * i + 2) list) }
+
+-- the curves that are written are the list's own, ten numbers each
+pub record OwnCurves (list names : List ℕ) : Type 0 where
+  pub count : length (curvesOf list names) ≡ curveCount (length list)
+  pub curve : (i : ℕ) (other : Curve) → i < curveCount (length list) → getD (curvesOf list names) i other ≡ ownCurve list names i
+
+-- a book is written: its curves are a book's, the reply counts its bytes, which stand in the buffer, and the later ones are kept
+pub record BookWritten (list names buffer : List ℕ) : Type 0 where
+  pub book : IsBook (curvesOf list names)
+  pub reply : replyToList list names (length buffer) ≡ replyBy 0 (length (bookText (curvesOf list names)))
+  pub bytes : written list names buffer ≡ bookText (curvesOf list names)
+  pub later : drop (length (written list names buffer)) (bufferAfter list names buffer) ≡ drop (length (written list names buffer)) buffer
+
 -- THEOREM (proofs/WriterMeaning.antt): for every list, whatever bytes its names count in and whatever buffer is lent
 pub record WriterTheorem : Type 0 where
+  pub own : (list names : List ℕ) → OwnCurves list names
   -- each number is given exactly when its words hold
   pub wrong : (list names : List ℕ) (room : ℕ) → (writerNumber list names room ≡ 31) ↔ WrongList list names
   pub twin : (list names : List ℕ) (room : ℕ) → (writerNumber list names room ≡ 32) ↔ TwinList list names
@@ -74,10 +92,8 @@ pub record WriterTheorem : Type 0 where
   -- a refusal gives its number and a count of 0, and leaves the buffer as it is
   pub refused : (list names buffer : List ℕ) → (writerNumber list names (length buffer) ≡ 0 → ⊥)
       → (replyToList list names (length buffer) ≡ replyBy (writerNumber list names (length buffer)) 0) × (bufferAfter list names buffer ≡ buffer)
-  -- an accepted list has the curves of a book, which is what is written, and the later bytes are kept
-  pub book : (list names buffer : List ℕ) → writerNumber list names (length buffer) ≡ 0
-      → IsBook (curvesOf list names) × ((written list names buffer ≡ bookText (curvesOf list names))
-      × (drop (length (written list names buffer)) (bufferAfter list names buffer) ≡ drop (length (written list names buffer)) buffer))
+  -- an accepted list is written
+  pub book : (list names buffer : List ℕ) → writerNumber list names (length buffer) ≡ 0 → BookWritten list names buffer
   -- reading a written book gives those names and numbers, whatever list of 640 numbers or more is lent to the reader
   pub reads : (list names buffer lent : List ℕ) → writerNumber list names (length buffer) ≡ 0 → leastList ≤ length lent
       → (replyToBook (written list names buffer) (length lent) ≡ acceptedOf (curveCount (length list)))

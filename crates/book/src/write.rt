@@ -15,7 +15,8 @@ ghost use Rattle.book.specs.Body.{cardNumbers};
 ghost use Rattle.book.specs.Book.{mostCurves};
 ghost use Rattle.book.specs.Printed.{IsNumber, numberText, contentsText, contentsTexts, bodyText, bodyTexts, bookText, namesOf};
 ghost use Rattle.book.specs.Meaning.{curvesIn};
-ghost use Rattle.book.specs.Writing.{bodiesIn, someWrong, hasLong, someLong};
+ghost use Rattle.book.specs.Writing.{someWrong, hasLong, someLong};
+ghost use Rattle.book.specs.WriterSteps.{bodiesIn};
 
 // Writes a number and the byte that ends it from a place on, and returns the place after them.
 fn write_number(v: u32, end: u8, buffer: &mut [u8], at: usize) -> usize

@@ -99,7 +99,8 @@ pub extern "C" fn pippinterm_read_book(
     reply.number
 }
 
-// Writes the book of a list of curves, ten numbers each, whose names stand in the bytes of `names`: 0, and `count` has how many bytes; or the number of the refusal, 31 to 33, `count` has 0, and the buffer is as it was.
+// Writes the book of a list of curves, ten numbers each, whose names stand in the bytes of `names`: 0, and `count` has how many bytes; or the
+// number of the refusal, 31 to 33, `count` has 0, and the buffer is as it was.
 #[no_mangle]
 pub extern "C" fn pippinterm_write_book(
     list: &[u32],

@@ -1,8 +1,8 @@
--- Laws of choices, of what holds of each of a list, and of what is left.
+-- Laws of choices and tests, of what holds of each of a list, and of what is left.
 -- Assumes nothing.
 use Prim.Native.Nat.{ℕ, _≤_}
 use mathlib.Core.Path.{_≡_, refl, ap}
-use mathlib.Core.Bool.{Bool, true, false, cond}
+use mathlib.Core.Bool.{Bool, true, false, cond, _||_, true≢false}
 use mathlib.Core.List.{List, [], _∷_, _++_}
 use native.Mathlib.Omega.{arith}
 use Rattle.decimal.specs.Decimal.{Each}
@@ -11,6 +11,23 @@ use Rattle.decimal.specs.Decimal.{Each}
 pub cond-case : {A : Type 0} (P : A → Type 0) (b : Bool) (x y : A) → (b ≡ true → P x) → (b ≡ false → P y) → P (cond b x y)
 cond-case P true x y p q = p refl
 cond-case P false x y p q = q refl
+
+-- tests joined by "or": where none is met, and where the second is
+pub or-none : (a b : Bool) → (a || b) ≡ false → (a ≡ false) × (b ≡ false)
+or-none true b e = absurd (true≢false e)
+or-none false b e = (refl, e)
+
+pub neither-met : (a b : Bool) → a ≡ false → b ≡ false → (a || b) ≡ false
+neither-met a b p q = rw (p, q)
+
+pub second-met : (a b : Bool) → b ≡ true → (a || b) ≡ true
+second-met true b q = refl
+second-met false b q = q
+
+-- a test that cannot fail is met
+pub not-met : (b : Bool) → (b ≡ false → ⊥) → b ≡ true
+not-met true h = refl
+not-met false h = absurd (h refl)
 
 -- where none is left, all is as at the start
 pub none-left : {A : Type 0} (f : ℕ → A) (k : ℕ) → k ≤ 0 → f k ≡ f 0

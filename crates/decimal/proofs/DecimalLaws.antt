@@ -17,10 +17,10 @@ use Rattle.decimal.proofs.Choices.{none-left}
 use Rattle.decimal.proofs.Stores.{sets-append}
 
 -- ---- how many digits
-pub size-one : (k v : ℕ) → v < 10 → length (digitsText (suc k) v) ≡ 1
+size-one : (k v : ℕ) → v < 10 → length (digitsText (suc k) v) ≡ 1
 size-one k v h = ap length (text-one k v h)
 
-pub size-more : (k v : ℕ) → 10 ≤ v → length (digitsText (suc k) v) ≡ length (digitsText k (v / 10)) + 1
+size-more : (k v : ℕ) → 10 ≤ v → length (digitsText (suc k) v) ≡ length (digitsText k (v / 10)) + 1
 size-more k v h = ap length (text-more k v h) ∙ length-append (digitsText k (v / 10)) ((48 + v % 10) ∷ [])
 
 pub size-some : (k v : ℕ) → 0 < k → 1 ≤ length (digitsText k v)
@@ -107,7 +107,7 @@ pub digits-stored : (l : List ℕ) (at v n : ℕ) → n ≤ 0 → sets l at (las
 unfolding lastDigits
 digits-stored l at v = none-left (λ n. sets l at (lastDigits n v))
 
--- ---- signed numbers, by the test whether one is below nought: y is what the machine reads back of z
+-- ---- signed numbers, by the test whether one is below nought: y is what is read back of z
 pub size-below : {y z : ℤ} → y ≡ z → ltZ y (pos 0) ≡ true → pos 0 -ℤ y ≡ pos (natAbs z)
 size-below {y = pos n} e t = absurd (omega (arith, ltb-true n 0 t))
 size-below {y = negsuc n} e t = ap pos (omega arith) ∙ ap (λ (x : ℤ). pos (natAbs x)) e

@@ -9,15 +9,17 @@ use borrow.Author.Needs.{needs}
 use borrow.Author.Tests.{lt-ltb, le-ltb}
 use lib.ListN.{length}
 use lib.Seq.{length-take-le}
+use Rattle.decimal.proofs.Choices.{neither-met, second-met}
 use Rattle.card.specs.Words.{_below_}
 use Rattle.card_list.specs.List.{curveWidth}
 use Rattle.book.specs.Book.{mostCurves}
-use Rattle.book.specs.Printed.{bookText}
-use Rattle.book.specs.Writing.{curveCount, curvesOf, bodiesIn, notTens, someWrong, someLong}
-use Rattle.book.specs.WriterSteps.{twinKeys}
+use Rattle.book.specs.Printed.{bodiesOf, bookText}
+use Rattle.book.specs.Writing.{curveCount, curvesOf, notTens, someWrong, someLong, wrongList, twinned, tooLong}
+use Rattle.book.specs.WriterSteps.{bodiesIn, twinKeys}
 use Rattle.book.proofs.BookText.{book-some, book-most}
-use Rattle.book.proofs.WriterNames.{neither-met, second-met, keys-twins}
-use Rattle.book.proofs.WriterReplies.{tens-of, wrongList, twinned, tooLong, answered-wrong, answered-twin, answered-short, number-none, answered-written, size-long, size-whole}
+use Rattle.book.proofs.WriterNames.{keys-twins}
+use Rattle.book.proofs.WriterLines.{curves-bodies}
+use Rattle.book.proofs.WriterReplies.{tens-of, answered-wrong, answered-twin, answered-short, number-none, answered-written, size-long, size-whole}
 use Rattle.book.proofs.WriterMeaning.{is-book}
 use Rattle.book.proofs.write_book.Statement.{statement}
 use Rattle.book.proofs.write_book.Tie as tie
@@ -104,7 +106,9 @@ long-enough : (e : tie.Else5) → length (text (at-fits e)) ≤ length (buffer (
 long-enough e = omega (arith, fits-size e .1, e .if5 .left)
 
 fits : (e : tie.Else5) → let s = at-fits e in tooLong (list s) (names s) (length (buffer s)) ≡ false
-fits e = let s = at-fits e in neither-met _ _ (le-ltb (length (buffer s)) (length (text s)) (long-enough e)) (fits-size e .0)
+fits e =
+    let s = at-fits e in
+    neither-met _ _ (le-ltb (length (buffer s)) (length (text s)) (long-enough e)) (ap someLong (curves-bodies (n s) (names s) (list s)) ∙ fits-size e .0)
 
 not-tens-requires : tie.Need-not-tens-requires
 not-tens-requires c κs = search needs
@@ -165,7 +169,7 @@ returns-4 c =
     let b = c .before .before in
     let s = at-size b in
     let long = size-long (someLong (bodiesIn (n s) (list s))) (length (text s)) (size-is b) (book-some (curvesOf (list s) (names s))) (c .before .if4 .taken) in
-    answered-short (list s) (names s) (buffer s) (no-wrong (names-of-twin (b .before .before))) (no-twin (b .before)) (second-met (length (buffer s) below length (text s)) (someLong (bodiesIn (n s) (list s))) long) (c .unwritten4 .ensures)
+    answered-short (list s) (names s) (buffer s) (no-wrong (names-of-twin (b .before .before))) (no-twin (b .before)) (second-met (length (buffer s) below length (text s)) (someLong (bodiesOf (curvesOf (list s) (names s)))) (ap someLong (curves-bodies (n s) (names s) (list s)) ∙ long)) (c .unwritten4 .ensures)
 
 unwritten-requires-5 : tie.Need-unwritten-requires-5
 unwritten-requires-5 c κs = search needs

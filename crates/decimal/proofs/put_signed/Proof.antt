@@ -18,7 +18,7 @@ signed-size-requires c κs = search needs
 has-room-requires : tie.Need-has-room-requires
 has-room-requires c κs = search needs
 
--- the bytes of the number are counted: the machine reads it back as it is
+-- the bytes of the number are counted: it is read back as it is
 counted : (c : tie.After-has-room) → c .before .signed-size .result ≡ length (signedText (c .before .before .before .args .z))
 counted c = c .before .signed-size .ensures .0 ∙ ap (λ (z : ℤ). length (signedText z)) (toZ-ofZ (c .before .before .before .fits .z))
 

@@ -8,10 +8,10 @@ use native.Mathlib.Omega.{arith}
 use borrow.Author.Needs.{needs}
 use lib.ListN.{length}
 use lib.Seq.{sets}
+use Rattle.decimal.proofs.Choices.{or-none}
 use Rattle.decimal.proofs.Stores.{stores-next}
 use Rattle.book.specs.Printed.{bodyText, bodyTexts}
 use Rattle.book.specs.Writing.{hasLong, someLong}
-use Rattle.book.proofs.WriterNames.{or-none}
 use Rattle.book.proofs.WriterLines.{bodyIn, body-long, bodiesAfter, bodies-all, bodies-none, texts-none, texts-turn, texts-size-turn, longs-turn}
 use Rattle.book.proofs.write.write_bodies.Statement.{statement}
 use Rattle.book.proofs.write.write_bodies.Tie as tie

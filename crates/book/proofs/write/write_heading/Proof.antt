@@ -50,12 +50,12 @@ write-number-requires : tie.Need-write-number-requires
 write-number-requires c κs =
     let n = c .before .before .before in
     let s = n .before .before .before .before in
-    (s .pre .0, omega (arith, named n .0, n .put-bytes .kept .1 .0, text-length s, s .pre .1, length-set (n .put-bytes .last .1 .0) (n .put-bytes .result) 32))
+    (s .pre .0, simp length-set (omega (arith, named n .0, n .put-bytes .kept .1 .0, text-length s, s .pre .1)))
 
 same-length : tie.Need-same-length
 same-length c =
     let n = c .before .before .before .before .before .before in
-    c .before .before .write-number .kept .1 .1 .0 ∙ length-set (n .put-bytes .last .1 .0) (n .put-bytes .result) 32 ∙ n .put-bytes .kept .1 .0
+    c .before .before .write-number .kept .1 .1 .0 ∙ simp length-set (n .put-bytes .kept .1 .0)
 
 returns : tie.Need-returns
 returns c =

@@ -10,7 +10,7 @@ use lib.Seq.{sets}
 use Rattle.decimal.proofs.Stores.{then-bytes}
 use Rattle.book.specs.Printed.{numberText, contentsTexts, bodyTexts, namesOf}
 use Rattle.book.specs.Meaning.{curvesIn}
-use Rattle.book.specs.Writing.{bodiesIn}
+use Rattle.book.specs.WriterSteps.{bodiesIn}
 use Rattle.book.proofs.WriterLines.{book-lines, book-length}
 use Rattle.book.proofs.write.write_lines.Statement.{statement}
 use Rattle.book.proofs.write.write_lines.Tie as tie

@@ -206,7 +206,9 @@ static int write_list(size_t length, uint32_t curves, const char *path)
     uint32_t number = pippinterm_write_book(list, PIPPINTERM_CURVE_NUMBERS * curves, text, length,
                                             buffer, PIPPINTERM_ENOUGH_BOOK, &bytes);
     if (number != PIPPINTERM_ACCEPTED) {
-        fprintf(stderr, "box: the list is refused, %lu\n", (unsigned long)number);
+        /* The buffer is long enough for every book, so 33 can mean a number only. */
+        fprintf(stderr, "box: the list is refused, %lu%s\n", (unsigned long)number,
+                number == PIPPINTERM_REFUSED_SHORT_BUFFER ? ": a number above seven digits" : "");
         return 1;
     }
     return write_file(path, bytes);
@@ -258,13 +260,13 @@ int main(int argc, char **argv)
     FILE *book = path == NULL ? NULL : fopen(path, "rb");
     size_t length;
     int ended;
-    if (book == NULL) {
-        fprintf(stderr, "usage: box [--day] BOOK, a file that can be read\n"
-                        "       box --write NEW BOOK [NAME NUMBER VALUE]\n");
+    if (path == NULL) {
+        fprintf(stderr, "usage: box [--day] BOOK\n"
+                        "       box --write NEW BOOK [NAME NUMBER VALUE]: reads BOOK, writes NEW\n");
         return 2;
     }
-    length = fread(text, 1, sizeof text, book);
-    if (ferror(book)) {
+    length = book == NULL ? 0 : fread(text, 1, sizeof text, book);
+    if (book == NULL || ferror(book)) {
         fprintf(stderr, "box: %s cannot be read\n", path);
         return 2;
     }

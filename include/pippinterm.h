@@ -14,8 +14,8 @@
  * No call asks for a test beforehand: every card, every radius, every text,
  * every list and every length has its reply. Only the C side can see to this
  * much:
- *   - a pointer leads to as many numbers or cards as are said to be there, and
- *     they lie as C aligns them. A table, a text, a list, names, a buffer, a day's
+ *   - a pointer leads to as many numbers, bytes or cards as are said to be there,
+ *     and they lie as C aligns them. A table, a text, a list, names, a buffer, a day's
  *     cards or its reply list may be NULL where the length given with it is 0;
  *     card, count, line and looked are never NULL, since a card has its eight
  *     numbers in every call, and count, line and looked are always written;

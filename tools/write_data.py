@@ -255,7 +255,7 @@ def long_numbers():
         yield Case(replaced(TWO, 12 + number, MOST), TWO_NAMES)
     for number in (2, 9, 12, 19):
         yield Case(replaced(TWO, number, NINES), TWO_NAMES)
-    # what is left of these in 24, 16 and 8 bits has seven digits at most
+    # what is left of these in 16 and 8 bits, and of some in 24, has seven digits at most
     for number in (16777216, 16777217, 99999999, 100000000, 2147483648):
         yield Case(replaced(TWO, 5, number), TWO_NAMES)
     yield Case(replaced(many(64), 639, EIGHT_DIGITS), LETTERS)

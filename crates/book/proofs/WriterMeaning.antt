@@ -12,7 +12,7 @@ use lib.Dec.{eqb}
 use borrow.Author.Tests.{ltb-false, le-ltb, eq-eqb}
 use Rattle.decimal.specs.Decimal.{Each}
 use Rattle.decimal.proofs.Choices.{or-none, neither-met, not-met}
-use Rattle.card.specs.Words.{_below_, _above_, outside}
+use Rattle.card.specs.Words.{_below_, _above_, outside, among}
 use Rattle.card.specs.Table.{replyBy}
 use Rattle.card_list.specs.declared.NamePlace.{NamePlace}
 use Rattle.card_list.specs.List.{curveWidth, namePlaceIn, nameBytes}
@@ -46,6 +46,12 @@ own-at (suc n) names list (suc i) other h =
     })
 
 -- ---- the first of three tests that is met
+given-only : (a b c : Bool) → among (0 ∷ 31 ∷ 32 ∷ 33 ∷ []) (given a b c) ≡ true
+given-only true b c = refl
+given-only false true c = refl
+given-only false false true = refl
+given-only false false false = refl
+
 given-first : (a b c : Bool) → given a b c ≡ 31 → a ≡ true
 given-first true b c e = refl
 given-first false true c e = absurd (omega arith)
@@ -392,6 +398,7 @@ writer-meaning = record {
   twin = says-twin;
   short = says-short;
   fits = says-fits;
+  only = λ list names room. rw (number-is list names room) (given-only (wrongList list names) (twinned list names) (tooLong list names room));
   refused = refused;
   book = λ list names buffer e. record {
     book = is-book list names (length buffer) e;

@@ -4,9 +4,11 @@
 use Prim.Native.Nat.{ℕ, _+_, _*_, _≤_, _<_}
 use mathlib.Core.Logic.{_↔_}
 use mathlib.Core.Path.{_≡_}
-use mathlib.Core.List.{List, _++_}
+use mathlib.Core.Bool.{true}
+use mathlib.Core.List.{List, [], _∷_, _++_}
 use lib.ListN.{length, getD, take, drop}
 use Rattle.decimal.specs.Decimal.{Each}
+use Rattle.card.specs.Words.{among}
 use Rattle.card.specs.Table.{replyBy}
 use Rattle.card_list.specs.declared.NamePlace.{NamePlace}
 use Rattle.card_list.specs.List.{curveWidth, namePlaceIn, nameBytes, nameIn}
@@ -89,6 +91,8 @@ pub record WriterTheorem : Type 0 where
   pub twin : (list names : List ℕ) (room : ℕ) → (writerNumber list names room ≡ 32) ↔ TwinList list names
   pub short : (list names : List ℕ) (room : ℕ) → (writerNumber list names room ≡ 33) ↔ Unwritable list names room
   pub fits : (list names : List ℕ) (room : ℕ) → (writerNumber list names room ≡ 0) ↔ Fits list names room
+  -- and no other number is given
+  pub only : (list names : List ℕ) (room : ℕ) → among (0 ∷ 31 ∷ 32 ∷ 33 ∷ []) (writerNumber list names room) ≡ true
   -- a refusal gives its number and a count of 0, and leaves the buffer as it is
   pub refused : (list names buffer : List ℕ) → (writerNumber list names (length buffer) ≡ 0 → ⊥)
       → (replyToList list names (length buffer) ≡ replyBy (writerNumber list names (length buffer)) 0) × (bufferAfter list names buffer ≡ buffer)

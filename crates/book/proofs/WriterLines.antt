@@ -277,19 +277,24 @@ heading-length names at line e h =
     ∙ omega (arith, name-size names at (right-stands names at e .inside), number-length line 10 h)
 
 -- ---- how many bytes the book has
--- the size of a body is 0 exactly with a number that is too long
-module _ (numbers : List ℕ) {size : ℕ} (e : size ≡ bodySize numbers) where
-  pub size-none : 1 ≤ length numbers → size ≡ 0 → hasLong numbers ≡ true
-  unfolding bodySize
-  size-none some z =
-      cond-case (λ (k : ℕ). size ≡ k → hasLong numbers ≡ true) (hasLong numbers) _ _ (λ t f. t)
-      (λ t f. absurd (omega (arith, body-some numbers some))) e
+-- a size that is 0 where a number is too long, and else a length above 0
+module _ (long : Bool) (whole : ℕ) {size : ℕ} (e : size ≡ cond long 0 whole) where
+  pub size-long : (whole ≡ 0 → ⊥) → size ≡ 0 → long ≡ true
+  size-long some z = cond-case (λ (k : ℕ). size ≡ k → long ≡ true) long 0 whole (λ t f. t) (λ t f. absurd (some (sym f ∙ z))) e
 
-  pub size-some : (size ≡ 0 → ⊥) → (hasLong numbers ≡ false) × (size ≡ length (bodyText numbers))
+  pub size-whole : (size ≡ 0 → ⊥) → (long ≡ false) × (size ≡ whole)
+  size-whole some =
+      cond-case (λ (k : ℕ). size ≡ k → (long ≡ false) × (size ≡ whole)) long 0 whole (λ t f. absurd (some f)) (λ t f. (t, f)) e
+
+-- so is the size of a body
+module _ (numbers : List ℕ) {size : ℕ} (e : size ≡ bodySize numbers) where
+  pub body-size-long : 1 ≤ length numbers → size ≡ 0 → hasLong numbers ≡ true
   unfolding bodySize
-  size-some some =
-      cond-case (λ (k : ℕ). size ≡ k → (hasLong numbers ≡ false) × (size ≡ length (bodyText numbers))) (hasLong numbers) _ _
-      (λ t f. absurd (some f)) (λ t f. (t, f)) e
+  body-size-long some z = size-long (hasLong numbers) (length (bodyText numbers)) e (λ n. absurd (omega (arith, body-some numbers some))) z
+
+  pub body-size-whole : (size ≡ 0 → ⊥) → (hasLong numbers ≡ false) × (size ≡ length (bodyText numbers))
+  unfolding bodySize
+  body-size-whole some = size-whole (hasLong numbers) (length (bodyText numbers)) e some
 
 module _ (n : ℕ) (list : List ℕ) where
   -- what is counted after i curves, whatever bytes their names stand in

@@ -9,7 +9,7 @@ use lib.Dec.{eqb}
 use lib.ListN.{length, drop}
 use lib.Seq.{sets, sets-eq}
 use borrow.Author.Tests.{ltb-false, eqb-true, eq-eqb, ne-eqb, not-false}
-use Rattle.decimal.proofs.Choices.{cond-case, or-none}
+use Rattle.decimal.proofs.Choices.{or-none}
 use Rattle.card.specs.declared.Reply.{Reply}
 use Rattle.card.specs.Words.{_below_, _above_, outside}
 use Rattle.card.specs.Table.{replyBy}
@@ -90,12 +90,3 @@ module _ (list names : List ℕ) where
             (λ i. record { number = p i; count = q i }) ∙ sym (reply-is number-none),
             s ∙ sets-eq (bookText curves) buffer 0 (omega arith) ∙ ap (λ (k : ℕ). bookText curves ++ drop k buffer) z ∙ sym (buffer-is number-none),
           )
-
--- a size that is 0 where a number is too long, and else a length above 0
-module _ (long : Bool) (whole : ℕ) {size : ℕ} (e : size ≡ cond long 0 whole) where
-  pub size-long : (whole ≡ 0 → ⊥) → size ≡ 0 → long ≡ true
-  size-long some z = cond-case (λ (k : ℕ). size ≡ k → long ≡ true) long 0 whole (λ t f. t) (λ t f. absurd (some (sym f ∙ z))) e
-
-  pub size-whole : (size ≡ 0 → ⊥) → (long ≡ false) × (size ≡ whole)
-  size-whole some =
-      cond-case (λ (k : ℕ). size ≡ k → (long ≡ false) × (size ≡ whole)) long 0 whole (λ t f. absurd (some f)) (λ t f. (t, f)) e

@@ -18,8 +18,8 @@ use Rattle.book.specs.Writing.{curveCount, curvesOf, notTens, someWrong,
 use Rattle.book.specs.WriterSteps.{bodiesIn, twinKeys}
 use Rattle.book.proofs.BookText.{book-some, book-most}
 use Rattle.book.proofs.WriterNames.{keys-twins}
-use Rattle.book.proofs.WriterLines.{curves-bodies}
-use Rattle.book.proofs.WriterReplies.{tens-of, answered-wrong, answered-twin, answered-short, number-none, answered-written, size-long, size-whole}
+use Rattle.book.proofs.WriterLines.{curves-bodies, size-long, size-whole}
+use Rattle.book.proofs.WriterReplies.{tens-of, answered-wrong, answered-twin, answered-short, number-none, answered-written}
 use Rattle.book.proofs.WriterMeaning.{is-book}
 use Rattle.book.proofs.write_book.Statement.{statement}
 use Rattle.book.proofs.write_book.Tie as tie

@@ -5,7 +5,7 @@ use mathlib.Core.Path.{ap}
 use native.Mathlib.Omega.{arith}
 use borrow.Author.Needs.{needs}
 use Rattle.card_list.specs.declared.NamePlace.{NamePlace}
-use Rattle.book.proofs.WriterLines.{bodyIn, body-long, size-none, size-some, SizesAfter, sizes-first, sizes-last, sizes-long, sizes-turn}
+use Rattle.book.proofs.WriterLines.{bodyIn, body-long, body-size-long, body-size-whole, SizesAfter, sizes-first, sizes-last, sizes-long, sizes-turn}
 use Rattle.book.proofs.measure.book_size.Statement.{statement}
 use Rattle.book.proofs.measure.book_size.Tie as tie
 
@@ -88,7 +88,7 @@ returns c =
     let l = c .before .before .before .before .before .before .before .loop in
     let some = c .before .before .before .before .before .before .loop-test .taken in
     let eight = body-long list n (l .i) (s .pre .1) some in
-    sizes-long n list (l .i) (l .size) (l .inv .1 .1) some (size-none (bodyIn list (l .i)) (c .before .body-size .ensures .0) (omega (arith, eight)) (c .if1 .taken))
+    sizes-long n list (l .i) (l .size) (l .inv .1 .1) some (body-size-long (bodyIn list (l .i)) (c .before .body-size .ensures .0) (omega (arith, eight)) (c .if1 .taken))
 
 add-size-2 : tie.Need-add-size-2 Inv-loop μ-loop
 add-size-2 c = search needs
@@ -115,7 +115,7 @@ loop-again c =
     let n = s .args .n in
     let l = c .before .before .before .before .before .before .before .loop in
     let some = c .before .before .before .before .before .before .loop-test .taken in
-    let b = size-some (bodyIn list (l .i)) (c .before .body-size .ensures .0) (c .if1 .left) in
+    let b = body-size-whole (bodyIn list (l .i)) (c .before .body-size .ensures .0) (c .if1 .left) in
     let place = c .before .before .before .before .before .name-of-curve in (
       search needs,
       (

@@ -102,11 +102,26 @@ module _ (text : List ℕ) where
   unfolding keyFrom
   key-more n at = rw add-one
 
-  -- the same bytes have the same key
-  key-same : (n a b : ℕ) → sameBytes n text a b ≡ true → keyFrom n text a ≡ keyFrom n text b
+  -- each of the same bytes
+  pub same-byte : (n a b i : ℕ) → sameBytes n text a b ≡ true → i < n → byteAt text (a + i) ≡ byteAt text (b + i)
+  same-byte zero a b i s l = absurd (omega arith)
+  same-byte (suc n) a b zero s l =
+      let x : a + 0 ≡ a = omega arith in
+      let y : b + 0 ≡ b = omega arith in
+      ap (byteAt text) x ∙ same-head text n a b s .0 ∙ sym (ap (byteAt text) y)
+  same-byte (suc n) a b (suc i) s l =
+      let x : a + suc i ≡ a + 1 + i = omega arith in
+      let y : b + suc i ≡ b + 1 + i = omega arith in
+      ap (byteAt text) x ∙ same-byte n (a + 1) (b + 1) i (same-head text n a b s .1) (omega arith) ∙ sym (ap (byteAt text) y)
+
+  -- bytes that are the same one by one have one key
+  pub bytes-key : (n a b : ℕ) → ((i : ℕ) → i < n → byteAt text (a + i) ≡ byteAt text (b + i)) → keyFrom n text a ≡ keyFrom n text b
   unfolding keyFrom
-  key-same zero a b s = refl
-  key-same (suc n) a b s = let r = same-last n a b s in omega (arith, key-same n a b (r .0))
+  bytes-key zero a b same = refl
+  bytes-key (suc n) a b same = rw (bytes-key n a b (λ i l. same i (omega arith)), same n (omega arith))
+
+  key-same : (n a b : ℕ) → sameBytes n text a b ≡ true → keyFrom n text a ≡ keyFrom n text b
+  key-same n a b s = bytes-key n a b (λ i l. same-byte n a b i s l)
 
   -- a run is as long at another place, where its bytes and the one after them are the same
   run-same : (k a b : ℕ) → sameBytes (suc (nameRun k text b)) text a b ≡ true → nameRun k text a ≡ nameRun k text b

@@ -2,7 +2,7 @@
 -- Assumes nothing.
 use Prim.Native.Nat.{ℕ, zero, suc, _+_, _≤_, _<_}
 use mathlib.Core.Path.{_≡_, refl, sym, ap, ap₂, _∙_, subst}
-use mathlib.Core.Bool.{Bool, true, false, cond, not, _&&_, _||_, true≢false, false≢true}
+use mathlib.Core.Bool.{Bool, true, false, cond, not, _&&_, _||_, false≢true}
 use mathlib.Core.List.{List, [], _∷_}
 use native.Mathlib.Omega.{arith}
 use native.Mathlib.Numerals.{add-one}
@@ -15,7 +15,7 @@ use Rattle.decimal.proofs.Choices.{cond-case, or-none, neither-met, not-met}
 use Rattle.card_list.specs.declared.NamePlace.{NamePlace}
 use Rattle.card_list.specs.List.{curveWidth, namePlaceIn, nameBytes}
 use Rattle.book.specs.Number.{byteAt}
-use Rattle.book.specs.Name.{isNameByte, nameRun, sameBytes}
+use Rattle.book.specs.Name.{isNameByte, nameRun}
 use Rattle.book.specs.Printed.{namesOf}
 use Rattle.book.specs.Meaning.{curveIn, curvesIn}
 use Rattle.book.specs.Reading.{keyFrom, runAt, among}
@@ -25,8 +25,7 @@ use Rattle.book.specs.Written.{NameStands}
 use Rattle.book.specs.declared.text.ReadName.{ReadName}
 use Rattle.book.proofs.Names.{run-in}
 use Rattle.book.proofs.NameText.{NameBytes, run-most, run-bytes}
-use Rattle.book.proofs.TwinText.{same-head}
-use Rattle.book.proofs.Keys.{one-test, same-bytes}
+use Rattle.book.proofs.Keys.{one-test, same-bytes, same-byte, bytes-key}
 
 -- ---- one name
 no-other : (name : List ℕ) → hasOther name ≡ false → NameBytes name
@@ -128,25 +127,6 @@ unfolding sameName
 same-self [] = refl
 same-self (b ∷ name) = rw (eq-eqb b b refl, same-self name)
 
-module _ (text : List ℕ) where
-  -- each of the same bytes
-  same-byte : (n a b i : ℕ) → sameBytes n text a b ≡ true → i < n → byteAt text (a + i) ≡ byteAt text (b + i)
-  same-byte zero a b i s l = absurd (omega arith)
-  same-byte (suc n) a b zero s l =
-      let x : a + 0 ≡ a = omega arith in
-      let y : b + 0 ≡ b = omega arith in
-      ap (byteAt text) x ∙ same-head text n a b s .0 ∙ sym (ap (byteAt text) y)
-  same-byte (suc n) a b (suc i) s l =
-      let x : a + suc i ≡ a + 1 + i = omega arith in
-      let y : b + suc i ≡ b + 1 + i = omega arith in
-      ap (byteAt text) x ∙ same-byte n (a + 1) (b + 1) i (same-head text n a b s .1) (omega arith) ∙ sym (ap (byteAt text) y)
-
-  -- bytes that are the same one by one have one key
-  bytes-key : (n a b : ℕ) → ((i : ℕ) → i < n → byteAt text (a + i) ≡ byteAt text (b + i)) → keyFrom n text a ≡ keyFrom n text b
-  unfolding keyFrom
-  bytes-key zero a b same = refl
-  bytes-key (suc n) a b same = rw (bytes-key n a b (λ i l. same i (omega arith)), same n (omega arith))
-
 module _ (names : List ℕ) (a b : NamePlace) (p : isWrong names a ≡ false) (q : isWrong names b ≡ false) where
   abbrev inA : a .place + a .size ≤ length names
   inA = right-stands names a p .inside
@@ -190,16 +170,12 @@ unfolding among keysIn someWrong isOneOf curvesIn curveIn
 among-names zero names list at p e = refl
 among-names (suc n) names list at p e =
     let both = or-none _ _ e in
-    cond-or (key-test names at (namePlaceIn list 0) p (both .0)) (among-names n names (drop curveWidth list) at p (both .1))
+    rw (key-test names at (namePlaceIn list 0) p (both .0), among-names n names (drop curveWidth list) at p (both .1))
+    (or-cond (sameName (nameBytes names at) (nameBytes names (namePlaceIn list 0))) _)
   where
-    cond-or : {a b c d : Bool} → a ≡ b → c ≡ d → cond a true c ≡ (b || d)
-    cond-or {a} {b} {c} {d} u v = go a b c d u v
-      where
-        go : (a b c d : Bool) → a ≡ b → c ≡ d → cond a true c ≡ (b || d)
-        go true true c d u v = refl
-        go true false c d u v = absurd (true≢false u)
-        go false true c d u v = absurd (false≢true u)
-        go false false c d u v = v
+    or-cond : (a b : Bool) → cond a true b ≡ (a || b)
+    or-cond true b = refl
+    or-cond false b = refl
 
 -- so two keys are the same exactly when two names are
 pub keys-twins : (n : ℕ) (names list : List ℕ) → someWrong n names list ≡ false

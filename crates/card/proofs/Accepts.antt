@@ -2,7 +2,6 @@
 -- Assumes nothing.
 use mathlib.Core.Path.{_≡_, refl}
 use mathlib.Core.Bool.{false}
-use mathlib.Core.Logic.{⊎-elim}
 use Prim.Native.Nat.{ℕ, _≤_, _<_}
 use native.Mathlib.Nat.{le-trans, mul-le-mul-left}
 use native.Mathlib.Omega.{arith}
@@ -19,7 +18,8 @@ use Rattle.card.proofs.Entries.{least-radius, sizes}
 use Rattle.card.proofs.RowPlaces.{count-most}
 use Rattle.card.proofs.Steps.{at-start, passed}
 use Rattle.card.proofs.Tests.{passes}
-use Rattle.card.proofs.Unmet.{not-outside, not-neither, not-too-wide}
+use Rattle.card.proofs.Unmet.{not-outside, not-neither, not-too-wide, one-or-ten}
+use Rattle.card.proofs.Surveys.{in-survey}
 
 module _ (card : Card) where
   abbrev its : Profile
@@ -67,13 +67,21 @@ module _ (card : Card) where
   pub passed-after : refusalAfter card ≡ 0 → PassedAfter card
   passed-after e =
       let step = not-outside _ 1000 20000 .0 (past-after e 0 (lit< tt)) in
-      record { step-least = step .0; step-most = step .1; unit = not-neither _ 1 10 .0 (past-after e 1 (lit< tt)) }
+      record {
+        step-least = step .0;
+        step-most = step .1;
+        unit = not-neither _ 1 10 .0 (past-after e 1 (lit< tt));
+        survey = in-survey (card .datum) (card .unit) .0 (past-after e 2 (lit< tt), past-after e 3 (lit< tt));
+      }
 
   none-after : PassedAfter card → refusalAfter card ≡ 0
   unfolding refusalAfter
   none-after a =
       let past9 = passed (at-start (testsAfter card)) refl (not-outside _ 1000 20000 .1 (a .step-least, a .step-most)) in
-      passed past9 refl (not-neither _ 1 10 .1 (a .unit)) .says
+      let past10 = passed past9 refl (not-neither _ 1 10 .1 (a .unit)) in
+      let unmet = in-survey (card .datum) (card .unit) .1 (a .survey) in
+      let past34 = passed past10 refl (unmet .0) in
+      passed past34 refl (unmet .1) .says
 
   sizes-of : refusalBefore card ≡ 0 → Sizes its (addedOf card)
   sizes-of e = sizes (card .profile) (passed-before e .profile-least) (passed-before e .profile-most) (card .terrain)
@@ -89,7 +97,7 @@ module _ (card : Card) where
 
 -- the unit is 1 or 10
 pub unit-in : {card : Card} → PassedAfter card → (1 ≤ card .unit) × (card .unit ≤ 10)
-unit-in a = ⊎-elim (λ e. omega arith) (λ e. omega arith) (a .unit)
+unit-in a = one-or-ten (a .unit)
 
 pub shared-rule : SharedTheorem
 shared-rule card =

@@ -6,9 +6,11 @@ pub mod Tests
 pub mod Replies
 pub mod Clothoids
 pub mod Unmet
+pub mod Surveys
 pub mod Entries
 pub mod RowPlaces
 pub mod Accepts
 pub mod Joined
 pub mod Stored
 pub mod AccurateNumbers
+pub mod Moving

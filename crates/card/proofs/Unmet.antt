@@ -28,6 +28,10 @@ not-neither n a b = (
   ⊎-elim (λ h. rw (eq-eqb n a h)) (λ h. rw (eq-eqb n b h, or-true)),
 )
 
+-- a unit that is 1 or 10
+pub one-or-ten : {n : ℕ} → (n ≡ 1) ⊎ (n ≡ 10) → (1 ≤ n) × (n ≤ 10)
+one-or-ten = ⊎-elim (λ e. omega arith) (λ e. omega arith)
+
 -- W above 0 with R above 1000
 no-widening : (W R : ℕ) → ((W above 0 && R above 1000) ≡ false) ↔ (1000 < R → W ≡ 0)
 no-widening W R = (λ e. forth e, λ none. back none (R above 1000) refl) where

@@ -2,8 +2,12 @@
 -- Assumes nothing.
 use mathlib.Core.Path.{_≡_}
 use mathlib.Core.Logic.{_↔_, _⊎_}
-use Prim.Native.Nat.{ℕ, _*_, _≤_, _<_}
+use Prim.Native.Nat.{ℕ, _*_, _%_, _≤_, _<_}
+use lib.IntN.{ℤ, pos, negℤ, natAbs}
+use lib.Signed.{_≤ℤ_}
 use Rattle.card.specs.declared.Card.{Card}
+use Rattle.card.specs.declared.Datum.{Datum}
+use Rattle.card.specs.declared.Datum.the-variants.{Relative, Absolute}
 use Rattle.card.specs.declared.Profile.{Profile}
 use Rattle.card.specs.Profile.{profileAt, addedOf}
 use Rattle.card.specs.Clothoid.{leastLength}
@@ -24,11 +28,24 @@ pub record PassedBefore (r : Profile) (card : Card) : Type 0 where
   pub widening-most : card .«full_widening» ≤ 3500
   pub widening-none : 1000 < card .radius → card .«full_widening» ≡ 0
 
+-- the height and the grade of an absolute card; a relative one has neither
+pub record Surveyed (height grade : ℤ) (unit : ℕ) : Type 0 where
+  pub height-least : negℤ (pos 100000) ≤ℤ height
+  pub height-most : height ≤ℤ pos 9000000
+  pub whole-units : natAbs height % unit ≡ 0
+  pub grade-least : negℤ (pos 80) ≤ℤ grade
+  pub grade-most : grade ≤ℤ pos 80
+
+abbrev pub InSurvey : Datum → ℕ → Type 0
+InSurvey Relative unit = Unit
+InSurvey (Absolute height grade) unit = Surveyed height grade unit
+
 -- the reasons after a method's own
 pub record PassedAfter (card : Card) : Type 0 where
   pub step-least : 1000 ≤ card .step
   pub step-most : card .step ≤ 20000
   pub unit : (card .unit ≡ 1) ⊎ (card .unit ≡ 10)
+  pub survey : InSurvey (card .datum) (card .unit)
 
 -- the sizes of every profile in the table
 pub record Sizes (r : Profile) (added : ℕ) : Type 0 where

@@ -4,6 +4,8 @@ use mathlib.Core.Bool.{Bool, false, not, _||_}
 use mathlib.Core.List.{List, [], _∷_}
 use Prim.Native.Nat.{ℕ}
 use lib.Dec.{ltb, eqb}
+use lib.IntN.{ℤ}
+use lib.Signed.{ltZ}
 
 infix 40 _below_ _above_
 abbrev pub _below_ : ℕ → ℕ → Bool
@@ -15,6 +17,10 @@ a above b = ltb b a
 -- n is not from a to b
 abbrev pub outside : ℕ → ℕ → ℕ → Bool
 outside n a b = n below a || n above b
+
+-- the same of numbers of either sign
+abbrev pub beyond : ℤ → ℤ → ℤ → Bool
+beyond z a b = ltZ z a || ltZ b z
 
 -- n is neither a nor b
 abbrev pub neither : ℕ → ℕ → ℕ → Bool

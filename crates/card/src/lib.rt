@@ -2,22 +2,31 @@
 mod conditions;
 mod tables;
 
+use crate::conditions::is_beyond;
 use crate::conditions::is_neither;
 use crate::conditions::is_outside;
 use crate::conditions::is_too_wide;
+use crate::conditions::is_wrong_height;
 use crate::tables::CLOTHOIDS;
 use crate::tables::PROFILES;
 use crate::tables::lesser;
 use crate::tables::longer;
 ghost use mathlib.Core.Path.{_≡_};
-ghost use Prim.Native.Nat.{_<_};
+ghost use Prim.Native.Nat.{_≤_, _<_};
 ghost use lib.ListN.{drop};
 ghost use Rattle.card.specs.Profile.{profileAt, addedSlope};
 ghost use Rattle.card.specs.Clothoid.{leastFound};
-ghost use Rattle.card.specs.Reasons.{first, testsBy, refusalBefore, refusalAfter, refusalRoom};
+ghost use Rattle.card.specs.Reasons.{first, testsBy, testsDatum, refusalBefore, refusalAfter, refusalRoom};
 ghost use Rattle.card.specs.Rows.{rowsTo, stationTo};
 
-// A curve card, its eight numbers in the order of the paper: lengths in mm but the radius in metres, the slope in per mille.
+// What the heights of a card count from: its own nought, the inner brow at station 0; or the benchmark, above which the axis stands at
+// `height` mm at station 0 and climbs at `grade` per mille.
+pub enum Datum {
+    Relative,
+    Absolute { height: i32, grade: i32 },
+}
+
+// A curve card, its numbers in the order of the paper: lengths in mm but the radius in metres, the slope in per mille.
 pub struct Card {
     pub profile: u32,
     pub terrain: u32,
@@ -27,6 +36,7 @@ pub struct Card {
     pub full_widening: u32,
     pub step: u32,
     pub unit: u32,
+    pub datum: Datum,
 }
 
 // A profile: lengths in mm but the least radius in metres, slopes in per mille.
@@ -161,7 +171,32 @@ fn check_curve(p: Profile, card: Card) -> u32
     0
 }
 
-// 0, or the number of the first of the reasons that come after a method's own, 9 and 10.
+// The reasons 34 and 35, of an absolute card with this height and grade.
+fn check_survey(height: i32, grade: i32, unit: u32) -> u32
+    requires { ⌜ (1 ≤ unit) × (unit ≤ 10) ⌝ }
+    ensures { λ r. ⌜ r ≡ first (testsDatum unit (Datum.Absolute height grade)) ⌝ }
+{
+    if is_wrong_height(height, unit) {
+        return 34;
+    }
+    if is_beyond(grade, -80, 80) {
+        return 35;
+    }
+    0
+}
+
+// The same of a card with any datum: a relative one has no such reason.
+fn check_datum(datum: Datum, unit: u32) -> u32
+    requires { ⌜ (1 ≤ unit) × (unit ≤ 10) ⌝ }
+    ensures { λ r. ⌜ r ≡ first (testsDatum unit datum) ⌝ }
+{
+    match datum {
+        Datum::Relative => 0,
+        Datum::Absolute { height, grade } => check_survey(height, grade, unit),
+    }
+}
+
+// 0, or the number of the first of the reasons that come after a method's own: 9, 10, 34 and 35.
 pub fn check_after(card: Card) -> u32
     ensures { λ r. ⌜ r ≡ refusalAfter card ⌝ }
 {
@@ -173,7 +208,8 @@ pub fn check_after(card: Card) -> u32
     if is_neither(unit, 1, 10) {
         return 10;
     }
-    0
+    let datum = card.datum;
+    check_datum(datum, unit)
 }
 
 // 11 where a table of `room` numbers is too short for `count` rows of `width` numbers, else 0.

@@ -12,3 +12,5 @@ pub mod Pieces
 pub mod Apart
 pub mod RoundedClimb
 pub mod Through
+pub mod Shifts
+pub mod Splits

@@ -10,7 +10,7 @@ use lib.Signed.{mag}
 use borrow.Author.Tests.{leb-true, ltb-true, le-leb, lt-ltb}
 use Rattle.exact.specs.Rounding.{rounded}
 use Rattle.exact.specs.Parts.{up, dn}
-use Rattle.rounding.specs.Nearest.{mostOver, Roundable, roundable, nearestOf, NearestTheorem}
+use Rattle.rounding.specs.Nearest.{mostOver, Roundable, roundable, nearestOf, NearestTheorem, mostDivisor, floorOf, FloorTheorem}
 
 both : (a b : Bool) → (a && b) ≡ true → (a ≡ true) × (b ≡ true)
 both true b e = (refl, e)
@@ -53,3 +53,7 @@ unfolding nearestOf
 nearest-laws tie num den unit =
     let given : Bool → ℤ = λ t. cond t (rounded tie (1000 * unit) (record { num = num; den = den })) (pos 0) in
     record { within = λ z. ap given (test-holds z); beyond = λ never. ap given (test-fails never) }
+
+pub floor-of : FloorTheorem
+unfolding floorOf
+floor-of a m low high = simp (le-leb 1 m low, le-leb m mostDivisor high)

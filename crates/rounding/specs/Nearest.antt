@@ -6,7 +6,7 @@ use Prim.Native.Nat.{ℕ, _*_, _≤_, _<_}
 use lib.Dec.{leb, ltb}
 use lib.IntN.{ℤ, pos, negℤ, _-ℤ_}
 use lib.Signed.{mag}
-use Rattle.exact.specs.Rounding.{Tie, lower, higher, rounded}
+use Rattle.exact.specs.Rounding.{Tie, lower, higher, floorDiv, rounded}
 use Rattle.rounding.specs.declared.Tie.{Tie as TieRule}
 use Rattle.rounding.specs.declared.Tie.the-variants.{Lower, Higher}
 
@@ -63,6 +63,20 @@ pub record NearestLaws (tie : Tie) (num : ℤ) (den unit : ℕ) : Type 0 where
 abbrev pub NearestTheorem : Type 0
 NearestTheorem = (tie : Tie) (num : ℤ) (den unit : ℕ) → NearestLaws tie num den unit
 
+-- ---- the division alone
+-- the greatest divisor, 2^63 − 1
+abbrev pub mostDivisor : ℕ
+mostDivisor = 9223372036854775807
+
+-- a/m rounded down, for a divisor from 1 to the greatest; else 0
+unfoldable pub floorOf : ℤ → ℕ → ℤ
+floorOf a m = cond (leb 1 m && leb m mostDivisor) (floorDiv a m) (pos 0)
+
+-- THEOREM (proofs/Sizes.antt): for such a divisor it is the quotient downwards
+abbrev pub FloorTheorem : Type 0
+FloorTheorem = (a : ℤ) (m : ℕ) → 1 ≤ m → m ≤ mostDivisor → floorOf a m ≡ floorDiv a m
+
+-- ---- readings
 -- halfway, above nought and below, in mm and cm, by the rule that the code's enum names: 172.5 and −67.5 mm, 22.5 and −22.5 cm
 -- THEOREM (proofs/Readings.antt)
 pub record HalfwayReadings : Type 0 where

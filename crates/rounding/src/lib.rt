@@ -1,9 +1,9 @@
-// The one place where a number is rounded: a signed 64-bit numerator, divided downwards once, to an i32.
+// The one place where a number is rounded: a signed 64-bit numerator, divided downwards once, to an i32; and the division alone.
 ghost use mathlib.Core.Path.{_≡_};
 ghost use Prim.Native.Nat.{_*_, _≤_, _<_};
 ghost use lib.Signed.{mag};
 ghost use Rattle.exact.specs.Rounding.{floorDiv, rounded, taken};
-ghost use Rattle.rounding.specs.Nearest.{tieOf, mostOver, Roundable, nearestOf};
+ghost use Rattle.rounding.specs.Nearest.{tieOf, mostOver, Roundable, nearestOf, mostDivisor, floorOf};
 
 // Where a number halfway between two counts goes.
 pub enum Tie {
@@ -17,13 +17,29 @@ const MOST_OVER: u64 = 274877906944;
 // How far from nought a number may lie, in micrometres: 2^22.
 const REACH: u64 = 4194304;
 
+// The greatest divisor, the greatest number of 63 bits.
+const MOST_DIVISOR: u64 = 9223372036854775807;
+
 // a / m rounded down. Below nought -1 - a is divided, so that each division is of a number that is not below nought.
 fn divided_down(a: i64, m: u64) -> i64
-    requires { ⌜ (0 < m) × (m ≤ 9223372036854775807) ⌝ }
+    requires { ⌜ (0 < m) × (m ≤ mostDivisor) ⌝ }
     ensures { λ r. ⌜ r ≡ floorDiv a m ⌝ }
 {
     let d = m as i64;
     if a < 0 { -1 - (-1 - a) / d } else { a / d }
+}
+
+// a / m rounded down, for a divisor from 1 to the greatest i64; else 0.
+pub fn floor_div(a: i64, m: u64) -> i64
+    ensures { λ r. ⌜ r ≡ floorOf a m ⌝ }
+{
+    if m == 0 {
+        return 0;
+    }
+    if m > MOST_DIVISOR {
+        return 0;
+    }
+    divided_down(a, m)
 }
 
 // What the rule takes off the numerator.

@@ -36,7 +36,8 @@ module _ (card : Card) (rest : List ℤ) where
         stations = station-in;
         farther = λ i j h g. station-farther (card .clothoid) (card .step) i j (omega (arith, accepted card passes .after .step-least)) h g;
         exact = rule .exact;
-        rows = λ i j h g.
+        above = rule .above;
+        rows = λ is i j h g.
             let before : i < rowCount card = omega arith in
-            rw (outer-edge-in i before, outer-edge-in j g) (rule .rows i j (omega arith));
+            rw (outer-edge-in i before, outer-edge-in j g) (rule .rows is i j (omega arith));
       }

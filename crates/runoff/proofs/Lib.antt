@@ -7,6 +7,11 @@ pub mod Limits
 pub mod ClimbingTable
 pub mod Replies
 pub mod StationSlopes
+pub mod AxisSplit
+pub mod OnAxis
 pub mod RowLines
+pub mod MovedRows
+pub mod RowsWritten
 pub mod Fields
 pub mod StarredReadings
+pub mod AbsoluteComputed

@@ -1,40 +1,112 @@
--- Each height of a row as the code reckons it, with the bounds of every product on the way.
+-- Each height of a row above the axis, as the code reckons it, with the bounds of every product on the way.
 -- Assumes nothing.
-use mathlib.Core.Path.{_≡_}
+use mathlib.Core.Path.{_≡_, sym, ap, _∙_}
 use Prim.Native.Nat.{ℕ, _+_, _*_, _-_, _≤_, _<_, max}
 use native.Mathlib.Nat.{mul-le-mul, mul-le-mul-right, mul-pos}
 use native.Mathlib.Omega.{arith}
-use Rattle.exact.specs.Exact.{whole, _⊗_}
-use Rattle.exact.proofs.Is.{is-one, is-times}
-use Rattle.rounding.specs.Nearest.{Sized}
-use Rattle.rounding.proofs.Parts.{Line}
+use lib.IntN.{ℤ, pos, _+ℤ_, _-ℤ_, _*ℤ_}
+use Rattle.exact.specs.Exact.{Exact, whole, ratio, _⊕_, _⊗_}
+use Rattle.exact.specs.Parts.{Is}
+use Rattle.exact.specs.Rounding.{units, taken, rounded}
+use Rattle.exact.proofs.Integers.{add-parts, sub-parts, mul-parts}
+use Rattle.exact.proofs.Floor.{Floor, floor-is}
+use Rattle.exact.proofs.Rounded.{taken-most}
+use Rattle.exact.proofs.Is.{is-self, is-one, is-net, is-sum, is-times, is-eq}
+use Rattle.rounding.specs.Nearest.{mostOver}
+use Rattle.rounding.proofs.Halves.{floor-unique}
+use Rattle.rounding.proofs.Parts.{Line, counted}
+use Rattle.card.specs.Rows.{tie, inUnits}
 use Rattle.runoff.specs.declared.Runoff.{Runoff}
 use Rattle.runoff.specs.declared.turning.Slopes.{Slopes}
-use Rattle.section.specs.Lines.{Section, axisHeight, widening, outerEdge, outerBrow, innerEdge, innerBrow}
-use Rattle.runoff.specs.Reckoning.{sectionIn, axisIn, Limits, Ready}
+use Rattle.runoff.specs.declared.survey.Axis.{Axis}
+use Rattle.section.specs.Lines.{Section, axis, axisHeight, widening, outerEdge, outerBrow, innerEdge, innerBrow}
+use Rattle.runoff.specs.Reckoning.{sectionIn, Limits, stillAxis, heightOf, AxisSized, AxisIs, Footed, Ready, countOn}
+use Rattle.runoff.proofs.OnAxis.{counted-above}
 use Rattle.runoff.proofs.StationSlopes.{shoulder-rise, crown-rise}
 use Rattle.section.proofs.Heights.{outer-edge, outer-brow, inner-edge, inner-brow, widening-is}
 
+-- the axis that stays
 axis-high : {r : Runoff} → Limits r → axisHeight (sectionIn r) ≤ 337500
 axis-high {r} l = omega (arith, shoulder-rise r l, crown-rise r l)
 
--- the axis
-pub axis-line : {r : Runoff} {u : ℕ} → Limits r → 1 ≤ u → u ≤ 10 → Line (axisIn r) (axisHeight (sectionIn r)) 0 1 u
-axis-line l low high =
+pub still-is : {r : Runoff} (u : ℕ) → Limits r → AxisIs (axis (sectionIn r)) u (stillAxis (sectionIn r))
+unfolding stillAxis
+still-is {r} u l =
     record {
-      is = is-one _;
+      fraction = omega arith;
+      is = is-eq (is-sum (is-self (units (1000 * u) (pos 0)) (omega arith)) (is-one (axisHeight (sectionIn r)))) (is-one (axisHeight (sectionIn r))) (omega arith);
+      sized = record { rest-most = axis-high l; count-most = omega arith };
+    }
+
+-- the axis itself, in counts of the unit
+pub axis-footed : {a : Axis} {u : ℕ} → AxisSized a → 1 ≤ u → u ≤ 10 → Footed a 0 0 1 u
+axis-footed {a} z low high =
+    record {
       sized =
           record {
             some = omega arith;
             few = omega arith;
-            high = omega (arith, axis-high l);
+            high = omega (arith, z .rest-most);
             low = omega arith;
             unit = low;
             units = high;
           };
+      count-most = z .count-most;
     }
 
-module _ {r : Runoff} {d : ℕ} {s : Slopes} {u : ℕ} (z : Ready r d s u) where
+-- y stands (p − q)/e above the axis that stays, and can be rounded so with the axis at a
+pub record Above (a : Axis) (x : Section) (y : Exact) (p q e u : ℕ) : Type 0 where
+  pub footed : Footed a p q e u
+  pub counted : inUnits u (heightOf u a ⊕ ratio p q e) ≡ countOn u a x y
+
+-- ---- the widening, which is no height
+module _ {r : Runoff} {d u : ℕ} (limits : Limits r) (on : d ≤ r .clothoid) (low : 1 ≤ u) (high : u ≤ 10) where
+  once : r .clothoid * 1 ≡ r .clothoid
+  once = omega arith
+
+  grown : r .«full_widening» * d ≤ 3500 * r .clothoid
+  grown = mul-le-mul (limits .widening-most) on
+
+  pub widening-line : Line (whole 1000 ⊗ widening (sectionIn r) (whole d)) (1000 * (r .«full_widening» * d)) 0 (r .clothoid) u
+  widening-line =
+      record {
+        is = is-times 1000 (rw once at (widening-is (sectionIn r) (is-one d) (limits .long)));
+        sized =
+            record {
+              some = limits .long;
+              few = omega (arith, limits .clothoid-most);
+              high = omega (arith, grown, limits .long);
+              low = omega (arith, limits .long);
+              unit = low;
+              units = high;
+            };
+      }
+
+  -- nought is rounded to nought, over any denominator
+  nought : (l : ℕ) → 0 < l → rounded tie (1000 * u) (ratio 0 0 l) ≡ pos 0
+  unfolding rounded
+  nought l some =
+      let wide : 0 < l * (1000 * u) = mul-pos some (omega arith) in
+      let z : ℤ = pos 2 *ℤ (pos 0 -ℤ pos 0) +ℤ (pos (l * (1000 * u)) -ℤ pos (taken tie)) in
+      let half : Floor z (2 * (l * (1000 * u))) (pos 0) =
+      omega (
+        arith,
+        taken-most tie,
+        add-parts (pos 2 *ℤ (pos 0 -ℤ pos 0)) (pos (l * (1000 * u)) -ℤ pos (taken tie)),
+        mul-parts (pos 2) (pos 0 -ℤ pos 0),
+        sub-parts (pos 0) (pos 0),
+        sub-parts (pos (l * (1000 * u))) (pos (taken tie)),
+      ) in
+      floor-unique {a = z} (omega arith) (floor-is z (2 * (l * (1000 * u))) (omega arith)) half
+
+  pub not-widened : r .«full_widening» ≡ 0 → pos 0 ≡ inUnits u (whole 1000 ⊗ widening (sectionIn r) (whole d))
+  not-widened none =
+      let still : 0 ≡ 1000 * (r .«full_widening» * d) = rw none (omega arith) in
+      sym (nought (r .clothoid) (limits .long))
+      ∙ ap (λ (n : ℕ). rounded tie (1000 * u) (ratio n 0 (r .clothoid))) still
+      ∙ counted tie widening-line
+
+module _ {r : Runoff} {d : ℕ} {s : Slopes} {a : Axis} {u : ℕ} (z : Ready r d s a u) where
   abbrev x : Section
   x = sectionIn r
 
@@ -50,55 +122,50 @@ module _ {r : Runoff} {d : ℕ} {s : Slopes} {u : ℕ} (z : Ready r d s u) where
   abbrev side : ℕ
   side = kept * s .shoulder
 
-  axis-most : s .axis ≤ 337500
-  axis-most = omega (arith, z .slopes .axis-is, axis-high (z .limits))
-
   widened : x .W * d ≤ 3500 * x .L
   widened = mul-le-mul (z .limits .widening-most) (z .on)
 
   long : x .L * 1 ≡ x .L
   long = omega arith
 
-  pub widening-line : Line (whole 1000 ⊗ widening x (whole d)) (1000 * (x .W * d)) 0 (x .L) u
-  widening-line =
+  above : (y : Exact) (p q e : ℕ) → e ≤ mostOver → p ≤ 3000000 * e → q ≤ 4000000 * e → Is y (axisHeight x * e + p) q e → Above a x y p q e u
+  above y p q e few high low f =
       record {
-        is = is-times 1000 (rw long at (widening-is x (is-one d) (z .limits .long)));
-        sized =
+        footed =
             record {
-              some = z .limits .long;
-              few = omega (arith, z .limits .clothoid-most);
-              high = omega (arith, widened, z .limits .long);
-              low = omega (arith, z .limits .long);
-              unit = z .unit;
-              units = z .units;
+              sized =
+                  record {
+                    some = f .over;
+                    few = few;
+                    high = omega (arith, mul-le-mul-right e (z .axis .rest-most), f .over);
+                    low = omega (arith, f .over);
+                    unit = z .unit;
+                    units = z .units;
+                  };
+              count-most = z .axis .count-most;
             };
+        counted = counted-above u a x y p q e (z .unit) f;
       }
 
-  outer-sized : (w : ℕ) → w ≤ 7500 → Sized (s .axis * s .over + w * s .up) (w * s .down) (s .over) u
-  outer-sized w h =
-      record {
-        some = z .slopes .outer-is .over;
-        few = omega (arith, z .slopes .few);
-        high = omega (arith, mul-le-mul-right (s .over) axis-most, mul-le-mul h (z .slopes .high), z .slopes .outer-is .over);
-        low = omega (arith, mul-le-mul h (z .slopes .low), z .slopes .outer-is .over);
-        unit = z .unit;
-        units = z .units;
-      }
+  outer-few : s .over ≤ mostOver
+  outer-few = omega (arith, z .slopes .few)
 
-  pub outer-edge-line : Line (outerEdge x (whole d)) (s .axis * s .over + x .h * s .up) (x .h * s .down) (s .over) u
-  outer-edge-line =
-      record {
-        is = rw (z .slopes .axis-is) (outer-edge x (whole d) (z .slopes .outer-is));
-        sized = outer-sized (x .h) (omega (arith, z .limits .half-most));
-      }
+  pub outer-edge-above : Above a x (outerEdge x (whole d)) (x .h * s .up) (x .h * s .down) (s .over) u
+  outer-edge-above =
+      above _ _ _ _ outer-few
+      (omega (arith, mul-le-mul (z .limits .half-most) (z .slopes .high)))
+      (omega (arith, mul-le-mul (z .limits .half-most) (z .slopes .low)))
+      (outer-edge x (whole d) (z .slopes .outer-is))
 
-  pub outer-brow-line :
-      Line (outerBrow x (whole d)) (s .axis * s .over + (x .h + x .c) * s .up) ((x .h + x .c) * s .down) (s .over) u
-  outer-brow-line =
-      record {
-        is = rw (z .slopes .axis-is) (outer-brow x (whole d) (z .slopes .outer-is));
-        sized = outer-sized (x .h + x .c) (omega (arith, z .limits .half-most, z .limits .shoulder-most));
-      }
+  wide : x .h + x .c ≤ 7500
+  wide = omega (arith, z .limits .half-most, z .limits .shoulder-most)
+
+  pub outer-brow-above : Above a x (outerBrow x (whole d)) ((x .h + x .c) * s .up) ((x .h + x .c) * s .down) (s .over) u
+  outer-brow-above =
+      above _ _ _ _ outer-few
+      (omega (arith, mul-le-mul wide (z .slopes .high)))
+      (omega (arith, mul-le-mul wide (z .slopes .low)))
+      (outer-brow x (whole d) (z .slopes .outer-is))
 
   full-some : 0 < full
   full-some = mul-pos (z .limits .long) (z .slopes .outer-is .over)
@@ -125,29 +192,15 @@ module _ {r : Runoff} {d : ℕ} {s : Slopes} {u : ℕ} (z : Ready r d s u) where
   side-most : side ≤ 225000 * full
   side-most = omega (arith, mul-le-mul {n₁ = kept} {n₂ = 3750 * x .L} (omega (arith, shoulder-few, least-few)) (z .slopes .shoulder-high))
 
-  inner-sized : (b : ℕ) → b ≤ lane + side → Sized (s .axis * full) b full u
-  inner-sized b h =
-      record {
-        some = full-some;
-        few = omega (arith, full-few);
-        high = omega (arith, mul-le-mul-right full axis-most, full-some);
-        low = omega (arith, lane-most, side-most, full-some);
-        unit = z .unit;
-        units = z .units;
-      }
+  full-fits : full ≤ mostOver
+  full-fits = omega (arith, full-few)
 
-  pub inner-edge-line : Line (innerEdge x (whole d)) (s .axis * full) lane full u
-  inner-edge-line =
-      record {
-        is = rw (z .slopes .axis-is) (rw long at (inner-edge x (is-one d) (z .limits .long) (z .slopes .inner-is)));
-        sized = inner-sized lane (omega arith);
-      }
+  pub inner-edge-above : Above a x (innerEdge x (whole d)) 0 lane full u
+  inner-edge-above =
+      above _ 0 lane full full-fits (omega arith) (omega (arith, lane-most, full-some))
+      (is-net (rw long at (inner-edge x (is-one d) (z .limits .long) (z .slopes .inner-is))) (omega arith))
 
-  pub inner-brow-line : Line (innerBrow x (whole d)) (s .axis * full) (lane + side) full u
-  inner-brow-line =
-      record {
-        is =
-            rw (z .slopes .axis-is)
-            (rw long at (inner-brow x (is-one d) (z .limits .long) (z .slopes .inner-is) (z .slopes .shoulder-is)));
-        sized = inner-sized (lane + side) (omega arith);
-      }
+  pub inner-brow-above : Above a x (innerBrow x (whole d)) 0 (lane + side) full u
+  inner-brow-above =
+      above _ 0 (lane + side) full full-fits (omega arith) (omega (arith, lane-most, side-most, full-some))
+      (is-net (rw long at (inner-brow x (is-one d) (z .limits .long) (z .slopes .inner-is) (z .slopes .shoulder-is))) (omega arith))

@@ -12,6 +12,7 @@ use Rattle.card.specs.Words.{among}
 use Rattle.card.specs.Profile.{profiles, profileAt}
 use Rattle.card.specs.Clothoid.{clothoids, leastLength}
 use Rattle.card.specs.Rows.{joined}
+use Rattle.card.specs.Datum.{axisFrom, movedFrom}
 use Rattle.card.specs.Reasons.{Test, first, tooWide}
 use Rattle.card.specs.Table.{replyBy, tableBy}
 use Rattle.section.specs.Lines.{outerSlope, outerEdge, outerBrow, innerSlope, widening, innerEdge, innerShoulder, shoulderSlope, innerBrow}
@@ -51,7 +52,7 @@ taken : (W R : ℕ) → W ≤ 3500 → R ≤ 1000 → tooWide W R ≡ false
 taken W R few tight = not-too-wide W R .1 (few, λ h. absurd (omega arith))
 
 pub readings : Readings
-unfolding rounded profiles profileAt clothoids leastLength outerSlope outerEdge outerBrow innerSlope widening innerEdge innerShoulder shoulderSlope innerBrow row joined rows refusal replyNumber replyBy replyTo
+unfolding rounded profiles profileAt clothoids leastLength outerSlope outerEdge outerBrow innerSlope widening innerEdge innerShoulder shoulderSlope innerBrow axisFrom movedFrom row joined rows refusal replyNumber replyBy replyTo
 readings =
     record {
       ramp-accepted = refl;
@@ -78,7 +79,7 @@ readings =
     }
 
 pub boundaries : Boundaries
-unfolding rounded profiles profileAt clothoids leastLength outerSlope outerEdge outerBrow innerSlope widening innerEdge innerShoulder shoulderSlope innerBrow row joined rows refusal replyNumber replyBy replyTo tableBy tableAfter edges
+unfolding rounded profiles profileAt clothoids leastLength outerSlope outerEdge outerBrow innerSlope widening innerEdge innerShoulder shoulderSlope innerBrow axisFrom movedFrom row joined rows refusal replyNumber replyBy replyTo tableBy tableAfter edges
 boundaries =
     record {
       own = refl;

@@ -1,6 +1,6 @@
 -- The slopes at a whole station as the code reckons them, with the bounds of the sums that they go into.
 -- Assumes nothing.
-use mathlib.Core.Path.{_≡_, refl, ap}
+use mathlib.Core.Path.{_≡_, ap}
 use Prim.Native.Nat.{ℕ, _+_, _*_, _-_, _≤_, _<_, max}
 use native.Mathlib.Nat.{mul-le-mul, mul-le-mul-left, mul-le-mul-right}
 use native.Mathlib.Omega.{arith}
@@ -9,7 +9,7 @@ use Rattle.exact.proofs.Is.{is-one, is-as}
 use Rattle.runoff.specs.declared.Runoff.{Runoff}
 use Rattle.runoff.specs.declared.turning.Slope.{Slope}
 use Rattle.runoff.specs.declared.turning.Slopes.{Slopes}
-use Rattle.section.specs.Lines.{Section, axisHeight, outerSlope}
+use Rattle.section.specs.Lines.{Section, outerSlope}
 use Rattle.runoff.specs.Reckoning.{sectionIn, Limits, SlopeIs, SlopesAt}
 use Rattle.section.proofs.Slopes.{even-is, first-is, second-is}
 use Rattle.section.proofs.Heights.{inner-slope, shoulder-slope}
@@ -95,7 +95,6 @@ module _ (r : Runoff) (d : ℕ) (z : Limits r) (s : Slope) (f : SlopeIs (outerSl
   abbrev slopes : Slopes
   slopes =
       record {
-        axis = axisHeight (sectionIn r);
         up = s .up;
         down = s .down;
         inner = inner;
@@ -106,7 +105,6 @@ module _ (r : Runoff) (d : ℕ) (z : Limits r) (s : Slope) (f : SlopeIs (outerSl
   pub all-slopes : SlopesAt (sectionIn r) d slopes
   all-slopes =
       record {
-        axis-is = refl;
         outer-is = f .is;
         inner-is = inner-slope (sectionIn r) (whole d) (f .is);
         shoulder-is = shoulder-slope (sectionIn r) (whole d) (inner-slope (sectionIn r) (whole d) (f .is));

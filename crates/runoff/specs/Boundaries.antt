@@ -6,7 +6,7 @@ use mathlib.Core.List.{List, [], _∷_, _++_, map}
 use Prim.Native.Nat.{ℕ, zero, suc}
 use lib.IntN.{ℤ, pos, negℤ}
 use Rattle.card.specs.declared.Card.{Card}
-use Rattle.card.specs.Card.{card, ramp}
+use Rattle.card.specs.Card.{card, absoluteCard, ramp}
 use Rattle.section.specs.Figures.{widened, widest}
 use Rattle.runoff.specs.Rows.{cells, rowOf, rows}
 use Rattle.runoff.specs.Refusal.{refusal}
@@ -22,6 +22,20 @@ edge x n = record { of = x; gives = n }
 
 abbrev pub greatest : ℕ
 greatest = 4294967295
+
+-- the greatest and the least signed number
+abbrev pub greatestSigned : ℕ
+greatestSigned = 2147483647
+
+abbrev pub leastSigned : ℤ
+leastSigned = negℤ (pos 2147483648)
+
+-- the card of `edges` that passes, absolute, in centimetres and in millimetres, with a height and a grade
+abbrev pub centimetres : ℤ → ℤ → Card
+centimetres = absoluteCard 3 1 700 120000 40 400 20000 10
+
+abbrev pub millimetres : ℤ → ℤ → Card
+millimetres = absoluteCard 3 1 700 120000 40 400 20000 1
 
 -- each edge, beside a card that passes: profile 3, level, R 700, L 120000, v 40, W 400, step 20000, unit 10
 unfoldable pub edges : List Edge
@@ -107,6 +121,33 @@ edges =
     edge (card 3 1 700 120000 40 400 20000 9) 10 ∷
     edge (card 3 1 700 120000 40 400 20000 11) 10 ∷
     edge (card 3 1 700 120000 40 400 20000 greatest) 10 ∷
+    -- 34, height: outside −100,000 to 9,000,000, or not a whole number of units
+    edge (millimetres (pos 0) (pos 0)) 0 ∷
+    edge (millimetres (negℤ (pos 100000)) (pos 0)) 0 ∷
+    edge (millimetres (negℤ (pos 100001)) (pos 0)) 34 ∷
+    edge (millimetres (pos 9000000) (pos 0)) 0 ∷
+    edge (millimetres (pos 9000001) (pos 0)) 34 ∷
+    edge (millimetres (pos 15) (pos 0)) 0 ∷
+    edge (millimetres (negℤ (pos 15)) (pos 0)) 0 ∷
+    edge (centimetres (negℤ (pos 100000)) (pos 0)) 0 ∷
+    edge (centimetres (negℤ (pos 100010)) (pos 0)) 34 ∷
+    edge (centimetres (pos 9000000) (pos 0)) 0 ∷
+    edge (centimetres (pos 9000010) (pos 0)) 34 ∷
+    edge (centimetres (pos 20) (pos 0)) 0 ∷
+    edge (centimetres (negℤ (pos 20)) (pos 0)) 0 ∷
+    edge (centimetres (pos 15) (pos 0)) 34 ∷
+    edge (centimetres (negℤ (pos 15)) (pos 0)) 34 ∷
+    edge (centimetres (pos 1) (pos 0)) 34 ∷
+    edge (centimetres (negℤ (pos 1)) (pos 0)) 34 ∷
+    edge (millimetres (pos greatestSigned) (pos 0)) 34 ∷
+    edge (millimetres leastSigned (pos 0)) 34 ∷
+    -- 35, grade: outside −80 to 80
+    edge (millimetres (pos 0) (pos 80)) 0 ∷
+    edge (millimetres (pos 0) (pos 81)) 35 ∷
+    edge (millimetres (pos 0) (negℤ (pos 80))) 0 ∷
+    edge (millimetres (pos 0) (negℤ (pos 81))) 35 ∷
+    edge (millimetres (pos 0) (pos greatestSigned)) 35 ∷
+    edge (millimetres (pos 0) leastSigned) 35 ∷
     -- cards of the starred readings
     edge ramp 0 ∷
     edge (card 2 1 300 93333 60 0 20000 1) 0 ∷
@@ -129,7 +170,13 @@ edges =
     edge (card 1 1 125 59999 60 3501 20000 10) 6 ∷
     edge (card 1 1 125 59999 60 2251 20000 10) 8 ∷
     edge (card 1 1 125 59999 60 0 0 10) 8 ∷
-    edge (card 3 1 700 120000 40 400 0 0) 9 ∷ []
+    edge (card 3 1 700 120000 40 400 0 0) 9 ∷
+    edge (absoluteCard 1 1 125 59999 60 0 20000 10 (pos 5) (pos 81)) 8 ∷
+    edge (absoluteCard 3 1 700 120000 40 400 0 10 (pos 5) (pos 81)) 9 ∷
+    edge (absoluteCard 3 1 700 120000 40 400 20000 0 (pos 5) (pos 81)) 10 ∷
+    edge (absoluteCard 3 1 700 120000 40 400 20000 2 (pos 9000001) (pos 0)) 10 ∷
+    edge (centimetres (pos 5) (pos 81)) 34 ∷
+    edge (millimetres (pos 9000001) (negℤ (pos 81))) 34 ∷ []
 
 -- a lent table of n numbers, each 9
 abbrev pub nines : ℕ → List ℤ

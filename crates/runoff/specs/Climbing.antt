@@ -5,11 +5,12 @@ use mathlib.Core.List.{List}
 use Prim.Native.Nat.{ℕ, _+_, _*_, _≤_, _<_}
 use lib.IntN.{ℤ, pos}
 use lib.ListN.{length, getD}
-use Rattle.exact.specs.Exact.{Exact}
 use Rattle.card.specs.declared.Card.{Card}
+use Rattle.card.specs.declared.Datum.the-variants.{Relative}
 use Rattle.card.specs.Profile.{addedOf}
-use Rattle.section.specs.Lines.{sectionOf, On}
-use Rattle.section.specs.Climbing.{Climbs, Tabled}
+use Rattle.section.specs.Lines.{sectionOf}
+use Rattle.section.specs.Datum.{aboveAxis, readHeight}
+use Rattle.section.specs.Climbing.{ClimbsBy, Tabled}
 use Rattle.runoff.specs.Rows.{stationOf, rowWidth, rowOf}
 use Rattle.runoff.specs.Refusal.{refusal}
 
@@ -21,19 +22,26 @@ TabledOf card d e n k = Tabled (addedOf card) (card .unit) (sectionOf card) d e 
 abbrev pub TabledAt : Card → ℕ → ℕ → Type 0
 TabledAt card d e = TabledOf card d e (rowOf card d .«outer_edge») (rowOf card e .«outer_edge»)
 
--- the exact heights of a card, for any two stations from its start to the clothoid's end, fractions included
+-- the exact heights of a card, for any two stations from its start to the clothoid's end, fractions included: of a relative card from its
+-- nought, of an absolute one above the axis
 abbrev pub ClimbsExactly : Card → Type 0
-ClimbsExactly card = (s t : Exact) → On (sectionOf card) s → On (sectionOf card) t → Climbs (addedOf card) (sectionOf card) s t
+ClimbsExactly card = ClimbsBy (readHeight (card .datum)) (addedOf card) (sectionOf card)
 
--- the climbing rule of a card
+-- its exact heights above the axis, relative or absolute
+abbrev pub ClimbsAbove : Card → Type 0
+ClimbsAbove card = ClimbsBy (aboveAxis (card .datum)) (addedOf card) (sectionOf card)
+
+-- the climbing rule of a card; the tabled heights count from the same nought as the exact ones only where the card is relative
 pub record ClimbingRule (card : Card) : Type 0 where
   pub exact : ClimbsExactly card
+  pub above : ClimbsAbove card
   -- for the rows at any two stations
   pub tabled :
+      card .datum ≡ Relative →
       (d e : ℕ) → d ≤ e → e ≤ card .clothoid →
       TabledAt card d e
   -- for any two rows of its table, neighbours or not, with the stations that the rule for rows gives their places
-  pub rows : (i j : ℕ) → i ≤ j → TabledAt card (stationOf card i) (stationOf card j)
+  pub rows : card .datum ≡ Relative → (i j : ℕ) → i ≤ j → TabledAt card (stationOf card i) (stationOf card j)
 
 -- THEOREM (proofs/ClimbingRule.antt): it holds of every accepted runoff, one whose card none of its own reasons refuses
 abbrev pub ClimbingTheorem : Type 0
@@ -57,7 +65,9 @@ pub record ClimbingTable (card : Card) (count : ℕ) (table : List ℤ) : Type 0
   pub farther : (i j : ℕ) → i < j → j < count → stationOf card i < stationOf card j
   -- the exact heights
   pub exact : ClimbsExactly card
-  -- the tabled heights, for any two of the rows, i before j, neighbours or not
+  pub above : ClimbsAbove card
+  -- the tabled heights of a relative card, for any two of the rows, i before j, neighbours or not
   pub rows :
+      card .datum ≡ Relative →
       (i j : ℕ) → i < j → j < count →
       TabledOf card (stationOf card i) (stationOf card j) (outerEdgeIn table i) (outerEdgeIn table j)

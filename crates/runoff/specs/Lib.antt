@@ -9,4 +9,5 @@ pub mod Turning
 pub mod Climbing
 pub mod Accuracy
 pub mod Readings
+pub mod AbsoluteReadings
 pub mod Boundaries

@@ -1,5 +1,5 @@
--- Document 01, "What a turned-away card or book says": the reasons 1 to 11 without 7, which document 02, Slip 1, takes out, as one list of
--- numbered tests. Those that every method shares are the card's; 8 stands between them.
+-- Document 01, "What a turned-away card or book says": the reasons 1 to 11 without 7, which document 02, Slip 1, takes out, and with 34 and 35,
+-- which Slip 5 puts in before 11, as one list of numbered tests. Those that every method shares are the card's; 8 stands between them.
 -- Assumes nothing.
 use mathlib.Core.Bool.{Bool}
 use mathlib.Core.List.{List, [], _∷_, _++_}
@@ -21,7 +21,7 @@ methodTests r card =
     -- added slope
     test 8 (tooSteep r (addedSlope r (card .terrain)) (card .«full_slope») (card .clothoid)) ∷ []
 
--- the card's own reasons: 1 to 6, then 8, then 9 and 10
+-- the card's own reasons: 1 to 6, then 8, then 9, 10, 34 and 35
 abbrev pub ownTests : Card → List Test
 ownTests card = testsBefore card ++ (methodTests (profileAt (card .profile)) card ++ testsAfter card)
 
@@ -29,6 +29,6 @@ ownTests card = testsBefore card ++ (methodTests (profileAt (card .profile)) car
 abbrev pub tests : Card → ℕ → List Test
 tests card room = ownTests card ++ testsRoom rowWidth (rowCount card) room
 
--- the number of the card's own reason: 1 to 6 and 8 to 10 in rising order, first one met
+-- the number of the card's own reason: 1 to 6, 8 to 10, 34 and 35 in rising order, first one met
 unfoldable pub refusal : Card → ℕ
 refusal card = first (ownTests card)

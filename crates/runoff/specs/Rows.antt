@@ -5,9 +5,11 @@ use Prim.Native.Nat.{ℕ}
 use lib.IntN.{ℤ, pos}
 use Rattle.exact.specs.Exact.{whole, _⊗_}
 use Rattle.card.specs.declared.Card.{Card}
+use Rattle.card.specs.declared.Datum.{Datum}
 use Rattle.card.specs.Rows.{rowsTo, stationTo, inUnits, joined}
 use Rattle.runoff.specs.declared.rows.Row.{Row}
-use Rattle.section.specs.Lines.{Section, sectionOf, axis, widening, innerBrow, innerEdge, outerEdge, outerBrow}
+use Rattle.section.specs.Lines.{Section, sectionOf, widening, innerBrow, innerEdge, outerEdge, outerBrow}
+use Rattle.section.specs.Datum.{axisOn, moved}
 
 -- how many rows a card has, and the station of row i
 abbrev pub rowCount : Card → ℕ
@@ -24,22 +26,23 @@ rowWidth = 7
 abbrev pub cells : Row → List ℤ
 cells r = r .station ∷ r .widening ∷ r .«inner_brow» ∷ r .«inner_edge» ∷ r .axis ∷ r .«outer_edge» ∷ r .«outer_brow» ∷ []
 
--- the row at the station d, in counts of the unit; the widening is in mm, 1000 micrometres each
-unfoldable pub row : Section → ℕ → ℕ → Row
-row x unit d =
+-- the row at the station d, in counts of the unit: every height with its axis in it is rounded once; the widening is in mm, 1000 micrometres
+-- each, and is no height
+unfoldable pub row : Datum → Section → ℕ → ℕ → Row
+row datum x unit d =
     record {
       station = pos d;
       widening = inUnits unit (whole 1000 ⊗ widening x (whole d));
-      «inner_brow» = inUnits unit (innerBrow x (whole d));
-      «inner_edge» = inUnits unit (innerEdge x (whole d));
-      axis = inUnits unit (axis x);
-      «outer_edge» = inUnits unit (outerEdge x (whole d));
-      «outer_brow» = inUnits unit (outerBrow x (whole d));
+      «inner_brow» = inUnits unit (moved datum x (whole d) (innerBrow x (whole d)));
+      «inner_edge» = inUnits unit (moved datum x (whole d) (innerEdge x (whole d)));
+      axis = inUnits unit (axisOn datum x (whole d));
+      «outer_edge» = inUnits unit (moved datum x (whole d) (outerEdge x (whole d)));
+      «outer_brow» = inUnits unit (moved datum x (whole d) (outerBrow x (whole d)));
     }
 
 -- the card's row at the station d
 abbrev pub rowOf : Card → ℕ → Row
-rowOf card d = row (sectionOf card) (card .unit) d
+rowOf card d = row (card .datum) (sectionOf card) (card .unit) d
 
 -- the rows of a card, one after the other
 unfoldable pub rows : Card → List ℤ

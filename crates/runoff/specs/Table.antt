@@ -11,7 +11,7 @@ use Rattle.card.specs.Table.{replyBy, tableBy}
 use Rattle.runoff.specs.Rows.{rowCount, rowWidth, rows}
 use Rattle.runoff.specs.Refusal.{tests}
 
--- 1 to 6 and 8 to 11 in rising order, first one met; room is the length of the lent table
+-- 1 to 6, 8 to 10, 34, 35 and then 11, first one met; room is the length of the lent table
 unfoldable pub replyNumber : Card → ℕ → ℕ
 replyNumber card room = first (tests card room)
 

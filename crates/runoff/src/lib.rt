@@ -2,6 +2,7 @@
 mod conditions;
 mod counts;
 mod rows;
+mod survey;
 mod turning;
 
 use crate::conditions::is_too_steep;
@@ -55,7 +56,7 @@ pub enum Made {
     Refused(u32),
 }
 
-// 0 for an accepted card, else the number of the first of its own reasons: 1 to 6, 8, 9 or 10.
+// 0 for an accepted card, else the number of the first of its own reasons: 1 to 6, 8, 9, 10, 34 or 35.
 pub fn check_card(card: Card) -> u32
     ensures { λ r. ⌜ r ≡ refusal card ⌝ }
 {

@@ -14,9 +14,8 @@ pub(crate) struct Slope {
     pub over: u64,
 }
 
-// What the heights at a station are reckoned from: the axis, and the slopes over one denominator, of which the outer one is up - down.
+// What the heights at a station are reckoned from: the slopes over one denominator, of which the outer one is up - down.
 pub(crate) struct Slopes {
-    pub axis: u64,
     pub up: u64,
     pub down: u64,
     pub inner: u64,
@@ -101,16 +100,13 @@ fn slope_at(r: Runoff, d: u64) -> Slope
     }
 }
 
-// The axis, and every slope at the station d: the inner lane is not turned before the outer slope is p, nor the shoulder before it is q.
+// Every slope at the station d: the inner lane is not turned before the outer slope is p, nor the shoulder before it is q.
 pub(crate) fn slopes_at(r: Runoff, d: u64) -> Slopes
     requires { ⌜ Limits r × (d ≤ r .clothoid) ⌝ }
     ensures { λ s. ⌜ SlopesAt (sectionIn r) d s ⌝ }
 {
-    let h = r.half_width;
-    let c = r.shoulder_width;
     let p = r.crown_slope;
     let q = r.shoulder_slope;
-    let axis = c * q + h * p;
     let s = slope_at(r, d);
     let up = s.up;
     let down = s.down;
@@ -118,7 +114,6 @@ pub(crate) fn slopes_at(r: Runoff, d: u64) -> Slopes
     let inner = at_least(p * over, up, down);
     let shoulder = at_least(q * over, inner, 0);
     Slopes {
-        axis,
         up,
         down,
         inner,

@@ -137,7 +137,7 @@ module _ {added : ℕ} {x : Section} {s t : Exact} (ok : ClimbPremises added x) 
   if-so (inl e) = glued-same (rule ok .glued) s t a b e
   if-so (inr l) = ≼-antisym (rule ok .level s t a b l) (rule ok .level t s b a (turn l))
 
-  climbs-so : Climbs added x s t
+  climbs-so : Climbs added x s t (outerEdge x s) (outerEdge x t)
   climbs-so =
       record {
         fractions = (glued-proper (rule ok .glued) s a, glued-proper (rule ok .glued) t b);

@@ -2,6 +2,7 @@ pub mod Slopes
 pub mod Heights
 pub mod EdgePieces
 pub mod ExactClimb
+pub mod DatumClimb
 pub mod Proper
 pub mod TabledClimb
 pub mod TurningRule

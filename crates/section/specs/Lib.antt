@@ -1,4 +1,5 @@
 pub mod Lines
+pub mod Datum
 pub mod Climbing
 pub mod Turning
 pub mod Figures

@@ -1,6 +1,7 @@
 -- Document 01, "Lines of the cross-section", with the inner shoulder of document 02, Slip 1: each line at any exact station s, from 0 to L,
 -- fractions included.
--- A length in mm times a slope in ‰ is a height in micrometres. Heights count from the inner brow at station 0.
+-- A length in mm times a slope in ‰ is a height in micrometres. Heights count from the inner brow at station 0; those of an absolute card are
+-- these, moved with its axis (`Datum.antt`).
 -- Assumes nothing.
 use mathlib.Core.Bool.{Bool, cond}
 use Prim.Native.Nat.{ℕ, _+_, _*_, _<_}

@@ -7,22 +7,18 @@ use mir.Syntax.{w32}
 use mir.Val.{SFits}
 use mir.Facts.{toZ-ofZ}
 use Rattle.exact.proofs.Machine.{nat-back}
-use Rattle.rounding.proofs.Parts.{counted}
 use Rattle.runoff.specs.declared.rows.Sides.{Sides}
-use Rattle.card.specs.Rows.{tie as tieRule}
-use Rattle.runoff.specs.Rows.{row}
-use Rattle.runoff.specs.Reckoning.{Ready, innerSides, outerSides}
-use Rattle.runoff.proofs.RowLines.{widening-line}
+use Rattle.runoff.specs.Reckoning.{Ready, innerSides, outerSides, rowOn}
 use Rattle.runoff.proofs.Fields.{same-row}
 use Rattle.runoff.proofs.rows.row_at.Statement.{statement}
 use Rattle.runoff.proofs.rows.row_at.Tie as tie
 
-ready : (c : tie.After-slopes-at) → Ready (c .before .args .r) (c .before .args .d) (c .slopes-at .result) (c .before .args .unit)
+ready : (c : tie.After-slopes-at) → Ready (c .before .args .r) (c .before .args .d) (c .slopes-at .result) (c .before .args .axis) (c .before .args .unit)
 ready c = search needs
 
 -- that a field of a struct which a call gives fits an i32 is in what the step `struct-told` gives, field by field
 returns : tie.Need-returns
-unfolding row innerSides outerSides
+unfolding rowOn innerSides outerSides
 returns c =
     let told = c .before .before in
     let w = told .before .before in
@@ -35,10 +31,10 @@ returns c =
     let out-edge : SFits w32 (o .outer-sides .result .edge) = record { sfits = c .before .struct-told3 .given .1 .0 .1 } in
     same-row
     (nat-back w32 (z .before .args .d) (omega (arith, z .before .pre)))
-    (toZ-ofZ (record { sfits = w .height .ok }) ∙ w .height .ensures ∙ counted tieRule (widening-line (ready z)))
+    (toZ-ofZ (record { sfits = w .widening-at .ok }) ∙ w .widening-at .ensures)
     (toZ-ofZ in-brow ∙ ap (λ (x : Sides). x .brow) (n .inner-sides .ensures))
     (toZ-ofZ in-edge ∙ ap (λ (x : Sides). x .edge) (n .inner-sides .ensures))
-    (toZ-ofZ (z .before .fits .axis) ∙ z .before .pre .1)
+    (toZ-ofZ (z .before .fits .number))
     (toZ-ofZ out-edge ∙ ap (λ (x : Sides). x .edge) (o .outer-sides .ensures))
     (toZ-ofZ out-brow ∙ ap (λ (x : Sides). x .brow) (o .outer-sides .ensures))
 
@@ -54,14 +50,8 @@ outer-sides-requires c κs = ready (c .before)
 cast-station : tie.Need-cast-station
 cast-station c = search needs
 
-mul-height : tie.Need-mul-height
-mul-height c = record { fits = omega (arith, widening-line (ready (c .before .before)) .sized) }
-
-mul-height-2 : tie.Need-mul-height-2
-mul-height-2 c = record { fits = omega (arith, widening-line (ready (c .before .before)) .sized) }
-
-height-requires : tie.Need-height-requires
-height-requires c κs = widening-line (ready (c .before .before)) .sized
+widening-at-requires : tie.Need-widening-at-requires
+widening-at-requires c κs = search needs
 
 pub row-at-spec : {M : Type 1} → statement M
 row-at-spec =
@@ -71,7 +61,5 @@ row-at-spec =
     inner-sides-requires
     outer-sides-requires
     cast-station
-    mul-height
-    mul-height-2
-    height-requires
+    widening-at-requires
     returns)

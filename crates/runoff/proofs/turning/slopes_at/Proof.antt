@@ -3,18 +3,9 @@
 use native.Mathlib.Nat.{sub-zero}
 use native.Mathlib.Omega.{arith}
 use borrow.Author.Needs.{needs}
-use Rattle.runoff.proofs.StationSlopes.{shoulder-rise, crown-rise, crown-most, side-most, all-slopes}
+use Rattle.runoff.proofs.StationSlopes.{crown-most, side-most, all-slopes}
 use Rattle.runoff.proofs.turning.slopes_at.Statement.{statement}
 use Rattle.runoff.proofs.turning.slopes_at.Tie as tie
-
-mul-axis : tie.Need-mul-axis
-mul-axis c = record { fits = omega (arith, shoulder-rise _ (c .pre .0)) }
-
-mul-axis-2 : tie.Need-mul-axis-2
-mul-axis-2 c = record { fits = omega (arith, crown-rise _ (c .pre .0)) }
-
-add-axis : tie.Need-add-axis
-add-axis c = record { fits = omega (arith, shoulder-rise _ (c .pre .0), crown-rise _ (c .pre .0)) }
 
 slope-at-requires : tie.Need-slope-at-requires
 slope-at-requires c κs = search needs
@@ -42,9 +33,6 @@ pub slopes-at-spec : {M : Type 1} → statement M
 slopes-at-spec =
     tie.close
     (tie.spec
-    mul-axis
-    mul-axis-2
-    add-axis
     slope-at-requires
     mul-at-least
     at-least-requires

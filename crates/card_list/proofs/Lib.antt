@@ -1,1 +1,2 @@
-pub mod EightNumbers
+pub mod ListLaws
+pub mod ElevenNumbers

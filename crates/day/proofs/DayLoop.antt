@@ -28,10 +28,10 @@ use Rattle.day.proofs.DayNumbers.{room-for-replies}
 use Rattle.day.proofs.DayParts.{climbing-day}
 
 -- ---- cards as plain numbers
-pub cards-long : (bodies : List (List ℕ)) → length (cardsOf bodies) ≡ length bodies
+pub cards-long : (bodies : List (List ℤ)) → length (cardsOf bodies) ≡ length bodies
 cards-long bodies = length-map bodies cardOf
 
-pub card-at : (bodies : List (List ℕ)) (i : ℕ) → getD (cardsOf bodies) i (cardOf []) ≡ cardOf (getD bodies i [])
+pub card-at : (bodies : List (List ℤ)) (i : ℕ) → getD (cardsOf bodies) i (cardOf []) ≡ cardOf (getD bodies i [])
 card-at bodies i = List·getD-map cardOf bodies i []
 
 -- ---- the cards that are taken: all of them, or on a refusal none

@@ -10,6 +10,7 @@ use Rattle.card.specs.Table.{replyBy, tableBy}
 use Rattle.runoff.specs.Refusal.{refusal}
 use Rattle.runoff.specs.Table.{replyNumber, replyTo, tableAfter}
 use Rattle.runoff.proofs.StarredReadings.{readings}
+use Rattle.runoff.proofs.AbsoluteComputed.{absolute-readings}
 use Rattle.day.specs.Day.{dayNumber, dayReply, tableOf, repliesOf, dayTable, dayReplies}
 use Rattle.day.specs.Readings.{Readings}
 use Rattle.day.proofs.DayNumbers.{numbers-rule}
@@ -33,6 +34,8 @@ day-readings =
       refused-accepted = refl;
       shorter-fits = refl;
       shorter-fits-rows = rw (readings .ramp-rows);
+      surveyed-replies = refl;
+      surveyed-rows = rw (readings .ramp-rows, absolute-readings .ramp-rows);
       short-replies = refl;
       short-table = refl;
       longest-fits = refl;

@@ -117,5 +117,6 @@ module _ (card : Card) (count : ℕ) (table : List ℤ) (t : ClimbingTable card 
         stations = λ i h. same-station i h ∙ t .stations i h;
         farther = t .farther;
         exact = t .exact;
-        rows = λ i j h g. rw (same-outer-edge i (omega arith), same-outer-edge j g) (t .rows i j h g);
+        above = t .above;
+        rows = λ is i j h g. rw (same-outer-edge i (omega arith), same-outer-edge j g) (t .rows is i j h g);
       }

@@ -1,4 +1,4 @@
--- Readings at the edges of the day's call, from document 02, Slip 2, and the rows of document 01's own card.
+-- Readings at the edges of the day's call, from document 02, Slips 2 and 5, and the rows of document 01's own card.
 -- Assumes nothing.
 use mathlib.Core.Path.{_≡_}
 use mathlib.Core.List.{List, [], _∷_, _++_}
@@ -7,8 +7,9 @@ use lib.IntN.{ℤ, pos}
 use lib.ListN.{length, replicate}
 use Rattle.card.specs.declared.Card.{Card}
 use Rattle.card.specs.declared.Reply.{Reply}
-use Rattle.card.specs.Card.{card, ramp}
+use Rattle.card.specs.Card.{card, absoluteCard, ramp}
 use Rattle.runoff.specs.Rows.{rows}
+use Rattle.runoff.specs.AbsoluteReadings.{fallingRamp}
 use Rattle.day.specs.Day.{mostCards, dayReply, repliesOf, dayTable, dayReplies}
 use Rattle.day.specs.Parts.{acceptedIn, enoughFor}
 
@@ -21,6 +22,14 @@ steep = card 5 1 30 30000 61 600 20000 1
 
 abbrev pub close : Card
 close = card 5 1 30 30000 60 600 10000 1
+
+-- RAMP in centimetres, 5 mm above the benchmark, which 34 refuses
+abbrev pub halfway : Card
+halfway = absoluteCard 5 1 30 30000 60 600 20000 10 (pos 5) (pos 0)
+
+-- relative and absolute cards of one day
+abbrev pub surveyed : List Card
+surveyed = ramp ∷ fallingRamp ∷ halfway ∷ ramp ∷ []
 
 -- the most rows that a card can have: 300 m, and a row every metre
 abbrev pub longest : Card
@@ -55,6 +64,9 @@ pub record Readings : Type 0 where
   -- a reply list one number short
   pub short-replies : dayReplies mixed marks (replicate 9 9) ≡ replicate 9 9
   pub short-table : dayTable mixed marks (replicate 9 9) ≡ marks
+  -- relative and absolute cards of one day: each has its own rows, and the one that 34 refuses none
+  pub surveyed-replies : dayReplies surveyed (replicate 63 (pos 7)) (replicate 8 9) ≡ 0 ∷ 3 ∷ 0 ∷ 3 ∷ 34 ∷ 0 ∷ 0 ∷ 3 ∷ []
+  pub surveyed-rows : dayTable surveyed (replicate 63 (pos 7)) (replicate 8 9) ≡ rows ramp ++ (rows fallingRamp ++ (rows ramp ++ []))
   -- 301 rows want 2107 numbers, and every day has enough with 134848
   pub longest-fits : repliesOf (longest ∷ []) (enoughFor 1) ≡ 0 ∷ 301 ∷ []
   pub longest-short : repliesOf (longest ∷ []) 2106 ≡ 11 ∷ 0 ∷ []

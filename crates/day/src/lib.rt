@@ -76,8 +76,8 @@ pub fn fill_day(cards: &[Card], table: &mut [i32], replies: &mut [u32]) -> Reply
     reply
 }
 
-// The same of cards as plain numbers, eight each, in the order of the paper.
-pub fn fill_day_of_numbers(cards: &[[u32; 8]], table: &mut [i32], replies: &mut [u32]) -> Reply
+// The same of cards as plain numbers, eleven each: the eight in the order of the paper, the mark, height and grade.
+pub fn fill_day_of_numbers(cards: &[[i32; 11]], table: &mut [i32], replies: &mut [u32]) -> Reply
     ensures { λ r. ⌜ r ≡ dayReply (length (now (cards .entry))) (length (now (replies .entry))) ⌝ }
     ensures { λ r. ⌜ now (table .exit) ≡ dayTable (cardsOf (now (cards .entry))) (now (table .entry)) (now (replies .entry)) ⌝ }
     ensures { λ r. ⌜ now (replies .exit) ≡ dayReplies (cardsOf (now (cards .entry))) (now (table .entry)) (now (replies .entry)) ⌝ }

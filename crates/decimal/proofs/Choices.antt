@@ -1,10 +1,11 @@
 -- Laws of choices and tests, of what holds of each of a list, and of what is left.
 -- Assumes nothing.
-use Prim.Native.Nat.{ℕ, _≤_}
+use Prim.Native.Nat.{ℕ, zero, suc, _≤_, _<_}
 use mathlib.Core.Path.{_≡_, refl, ap}
-use mathlib.Core.Bool.{Bool, true, false, cond, _||_, true≢false}
+use mathlib.Core.Bool.{Bool, true, false, cond, _&&_, _||_, true≢false, false≢true}
 use mathlib.Core.List.{List, [], _∷_, _++_}
 use native.Mathlib.Omega.{arith}
+use lib.ListN.{length, getD}
 use Rattle.decimal.specs.Decimal.{Each}
 
 -- what holds in both cases of a test holds of the choice
@@ -24,6 +25,11 @@ pub second-met : (a b : Bool) → b ≡ true → (a || b) ≡ true
 second-met true b q = refl
 second-met false b q = q
 
+-- tests joined by "and": where both are met
+pub both-met : (a b : Bool) → (a && b) ≡ true → (a ≡ true) × (b ≡ true)
+both-met true b e = (refl, e)
+both-met false b e = absurd (false≢true e)
+
 -- a test that cannot fail is met
 pub not-met : (b : Bool) → (b ≡ false → ⊥) → b ≡ true
 not-met true h = refl
@@ -40,6 +46,13 @@ each-none P = tt
 pub each-first : {A : Type 0} (P : A → Type 0) (x : A) (xs : List A) → Each P (x ∷ xs) → P x
 unfolding Each
 each-first P x xs ps = ps .0
+
+-- of the i-th of a list, too
+pub each-at : {A : Type 0} (P : A → Type 0) (xs : List A) (i : ℕ) (other : A) → Each P xs → i < length xs → P (getD xs i other)
+unfolding Each
+each-at P [] i other ps h = absurd (omega arith)
+each-at P (x ∷ xs) zero other ps h = ps .0
+each-at P (x ∷ xs) (suc i) other ps h = each-at P xs i other (ps .1) (omega arith)
 
 pub each-more : {A : Type 0} (P : A → Type 0) (xs : List A) (x : A) → Each P xs → P x → Each P (xs ++ (x ∷ []))
 unfolding Each

@@ -9,7 +9,7 @@ use lib.ListN.{length, drop, set, getD, drop-of-length-le}
 use lib.Seq.{sets, drop-cons}
 
 -- a run of stores in two parts
-pub sets-append : (xs ys l : List ℕ) (i : ℕ) → sets l i (xs ++ ys) ≡ sets (sets l i xs) (i + length xs) ys
+pub sets-append : {A : Type 0} (xs ys l : List A) (i : ℕ) → sets l i (xs ++ ys) ≡ sets (sets l i xs) (i + length xs) ys
 sets-append [] ys l i = let z : i ≡ i + 0 = omega arith in ap (λ (k : ℕ). sets l k ys) z
 sets-append (x ∷ xs) ys l i =
     let z : suc i + length xs ≡ i + suc (length xs) = omega arith in

@@ -48,6 +48,7 @@ use denote.Triple.Statement.{Contract, Triple}
 use denote.Triple.Table.{entered, cited}
 use denote.Triple.Walked.{says, Stays, stay-none-slice, stay-slice, walkOf, goes-none-slice, goes-slice, Walks, ends-at, walked, walk-meets}
 use Rattle.card.specs.declared.Card.{Card}
+use Rattle.card.specs.declared.Datum.the-variants.{Relative}
 use Rattle.card.specs.declared.Reply.{Reply}
 use Rattle.card.proofs.Card as C₁
 use Rattle.card.proofs.Card.Laws as C₂
@@ -92,9 +93,17 @@ replies-ty = sliceTy (tyRef (named 2) mut (tyInt w32))
 abbrev lent-ref : Ty
 lent-ref = tyRef erased mut (tyInt w32)
 
+-- how many bytes a card takes in the list: its eight numbers, and the datum's variant, height and grade
+abbrev cardSize : ℕ
+cardSize = 44
+
+-- a card's one machine value, with its datum's as lowering writes it
+abbrev card-vals : Card → List Val
+card-vals card = C₂.lowered card ∷ []
+
 -- what stands past the end of the list of cards, which is never read
 abbrev no-card : Card
-no-card = record { profile = 0; terrain = 0; radius = 0; clothoid = 0; «full_slope» = 0; «full_widening» = 0; step = 0; unit = 0 }
+no-card = record { profile = 0; terrain = 0; radius = 0; clothoid = 0; «full_slope» = 0; «full_widening» = 0; step = 0; unit = 0; datum = Relative }
 
 module _ {M : Type 1} (𝓤 : URA M) (H : Heap 𝓤) (A : Atoms 𝓤) (at-mem : Memory → SProp 𝓤) (run : Routine → Fun 𝓤) where
   -- the contracts that the proof cites
@@ -265,10 +274,10 @@ module _ {M : Type 1} (𝓤 : URA M) (H : Heap 𝓤) (A : Atoms 𝓤) (W : Given
         -- the place of `cards[i]`
         assigns ! (bin ! (load ! (from ! (stop !)) (look ! 8 refl)) (lit ! tt) (record { fits = scaled })) (from ! (stop !)) (init ! 1 refl (tt, record { fits = scaled })) $
         assigns ! (bin ! (load ! (from ! (fld ! refl (stop !))) (look-in ! 10 (sub ! 0 refl (whole !)))) (load ! (from ! (stop !)) (look ! 1 refl)) tt) (from ! (stop !)) (init ! 2 refl (tt, tt)) $
-        rewrite ! 2 (λ (o : ℕ). ‵ (fat fullShare tyPtr l₁₂ 0 (vptr b₀ o))) (sym (place-is 32 o₀ (p .i))) refl $
+        rewrite ! 2 (λ (o : ℕ). ‵ (fat fullShare tyPtr l₁₂ 0 (vptr b₀ o))) (sym (place-is cardSize o₀ (p .i))) refl $
         -- the slice is looked into, the card is taken out, copied and put back, and the slice is shut
-        move ! (15 ∷ 14 ∷ []) $ looks-slice ! tt C₁.the-row (Is C₁.the-row) (shows 𝓤 H A C₁.the-row) (LL.vals C₁.the-type C₂.the-laws) (LL.tells C₁.the-type C₂.the-laws) (LL.copy C₁.the-type C₂.the-copy 𝓤 H A W) cs b₀ o₀ (λ q′.
-        elem-out ! C₁.the-row (Is C₁.the-row) (shows 𝓤 H A C₁.the-row) (LL.vals C₁.the-type C₂.the-laws) (LL.tells C₁.the-type C₂.the-laws) q′ cs (p .i) no-card b₀ o₀ there (λ isc.
+        move ! (15 ∷ 14 ∷ []) $ looks-slice ! tt C₁.the-row (Is C₁.the-row) (shows 𝓤 H A C₁.the-row) card-vals (C₂.lowers .val-is) (LL.copy C₁.the-type C₂.the-copy 𝓤 H A W) cs b₀ o₀ (λ q′.
+        elem-out ! C₁.the-row (Is C₁.the-row) (shows 𝓤 H A C₁.the-row) card-vals (C₂.lowers .val-is) q′ cs (p .i) no-card b₀ o₀ there (λ isc.
         -- [the card; what it owns; the others; the open borrow; the borrow; 5 and on: 0 to 13; 19 and on: 16 and on]
         assigns ! (of-opd ! (load ! (from ! (hop ! (look ! 7 refl) (stop !))) (look-raw ! 0 refl))) (from ! (stop !)) (init ! 8 refl (LL.lawful C₁.the-type C₂.the-laws 𝓤 H A W .typed (getD cs (p .i) no-card) _ isc .0)) $
         elem-back ! C₁.the-row q′ cs (p .i) no-card (C₂.lowered (getD cs (p .i) no-card) ∷ []) b₀ o₀ there $ shuts-slice ! tt C₁.the-row q′ cs b₀ o₀ $
@@ -316,7 +325,7 @@ module _ {M : Type 1} (𝓤 : URA M) (H : Heap 𝓤) (A : Atoms 𝓤) (W : Given
         there : p .i < length cs
         there = omega (arith, less, p .turn .in-cards)
 
-        scaled : p .i * 32 < 2 ^ 64
+        scaled : p .i * cardSize < 2 ^ 64
         scaled = omega (arith, there, room₀ .1)
 
         small : p .i < 2 ^ 64

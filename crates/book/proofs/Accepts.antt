@@ -5,6 +5,7 @@ use mathlib.Core.Path.{_≡_, refl, sym, ap, _∙_, subst}
 use mathlib.Core.Bool.{Bool, true, false}
 use mathlib.Core.List.{List, [], _∷_, _++_}
 use native.Mathlib.Omega.{arith}
+use lib.IntN.{ℤ, pos}
 use lib.ListN.{length}
 use lib.Seq.{append-snoc}
 use lib.Dec.{eqb}
@@ -14,7 +15,7 @@ use Rattle.decimal.proofs.Choices.{cond-case}
 use Rattle.book.specs.Number.{numberAt}
 use Rattle.book.specs.Name.{nameAt}
 use Rattle.book.specs.Contents.{headed, headingAt, headingNext, afterHeading, contentsLine}
-use Rattle.book.specs.Body.{cardNumbers, bodyFrom, numbersAt, afterNumbers}
+use Rattle.book.specs.Body.{frontNumbers, bodyFrom, numbersAt, afterNumbers}
 use Rattle.book.specs.Book.{mostCurves, acceptedOf, lineThen, bodiesFrom, contentsFrom, afterHeadings, entryAt, entriesFrom}
 use Rattle.book.specs.Printed.{IsName, IsNumber, IsBody, Differs, NoTwins, Curve, contentsText, contentsTexts, bodyText, bodyTexts, namesOf, bodiesOf}
 use Rattle.book.specs.LineMeaning.{Stands, Named, LineTheorem}
@@ -73,7 +74,7 @@ module _ (lines : LineTheorem) (text : List ℕ) where
     name-there = subst (NameIs (nameAt text at)) heading-there (heading-name text at)
 
   -- the same of a body
-  module _ (numbers : List ℕ) (bodies : List (List ℕ)) (at end : ℕ) (eight : IsBody numbers)
+  module _ (numbers : List ℤ) (bodies : List (List ℤ)) (at end : ℕ) (right : IsBody numbers)
       (s : Stands text at (bodyText numbers ++ bodyTexts bodies) end) where
     abbrev past : ℕ
     past = at + length (bodyText numbers)
@@ -81,11 +82,11 @@ module _ (lines : LineTheorem) (text : List ℕ) where
     bodies-behind : Stands text past (bodyTexts bodies) end
     bodies-behind = stands-back (bodyText numbers) (bodyTexts bodies) s
 
-    body-there : (bodyFrom cardNumbers text at ≡ Next past) × (numbersAt cardNumbers text at ≡ numbers)
-    body-there = lines .body-reads text at numbers past eight (stands-front (bodyText numbers) (bodyTexts bodies) s)
+    body-there : (bodyFrom frontNumbers text at ≡ Next past) × (numbersAt frontNumbers text at ≡ numbers)
+    body-there = lines .body-reads text at numbers past right (stands-front (bodyText numbers) (bodyTexts bodies) s)
 
-    numbers-end : afterNumbers cardNumbers text at ≡ past
-    numbers-end = sym (body-place cardNumbers text at (body-there .0))
+    numbers-end : afterNumbers frontNumbers text at ≡ past
+    numbers-end = sym (body-place frontNumbers text at (body-there .0))
 
   -- the place after some contents lines
   pub headings-there : (names : List (List ℕ)) (at line end : ℕ) → Each IsName names → line + length names ≤ 10000000
@@ -98,15 +99,15 @@ module _ (lines : LineTheorem) (text : List ℕ) where
       ∙ headings-there names _ (line + 1) end (known .1) (omega arith) (lines-behind name names at line end (known .0) b s)
 
   -- the last bodies, with no bytes after them
-  pub bodies-there : (bodies : List (List ℕ)) (n i at : ℕ) → Each IsBody bodies → Stands text at (bodyTexts bodies) (length text)
+  pub bodies-there : (bodies : List (List ℤ)) (n i at : ℕ) → Each IsBody bodies → Stands text at (bodyTexts bodies) (length text)
       → bodiesFrom (length bodies) text n i at ≡ acceptedOf n
   unfolding Each bodyTexts bodiesFrom
-  bodies-there [] n i at eights s =
+  bodies-there [] n i at cards s =
       let e : at ≡ length text = omega (arith, s .after) in
       simp (eq-eqb _ _ e)
-  bodies-there (numbers ∷ bodies) n i at eights s =
-      ap (λ (l : Line). lineThen l (n + i + 2) (bodiesFrom (length bodies) text n (i + 1))) (body-there numbers bodies at (length text) (eights .0) s .0)
-      ∙ bodies-there bodies n (i + 1) _ (eights .1) (bodies-behind numbers bodies at (length text) (eights .0) s)
+  bodies-there (numbers ∷ bodies) n i at cards s =
+      ap (λ (l : Line). lineThen l (n + i + 2) (bodiesFrom (length bodies) text n (i + 1))) (body-there numbers bodies at (length text) (cards .0) s .0)
+      ∙ bodies-there bodies n (i + 1) _ (cards .1) (bodies-behind numbers bodies at (length text) (cards .0) s)
 
   -- the first of some contents lines, whose name differs from those before
   contents-goes-on : (names : List (List ℕ)) (name : List ℕ) (earlier : List ℕ) (at line behind : ℕ) → IsName name → Named text earlier names
@@ -140,21 +141,21 @@ module _ (lines : LineTheorem) (text : List ℕ) where
       few (omega (arith, length-more passed name)) (subst NoTwins (sym (append-snoc passed name left)) twins)
       (subst (λ (k : ℕ). Stands text next (contentsTexts k left) end) more (lines-behind name left at line end (known .0) small s))
 
-  -- ten numbers a curve: what the reader gives is what the curves have
+  -- thirteen numbers a curve: what the reader gives is what the curves have
   pub entries-there : (curves : List Curve) (at line end body last : ℕ) → Each IsName (namesOf curves) → Each IsBody (bodiesOf curves)
       → line + length curves ≤ 10000000 → Stands text at (contentsTexts line (namesOf curves)) end → Stands text body (bodyTexts (bodiesOf curves)) last
       → entriesFrom (length curves) text at body ≡ entries at line curves
   unfolding Each contentsTexts bodyTexts entriesFrom entryAt entries
-  entries-there [] at line end body last known eights small s t = refl
-  entries-there (curve ∷ curves) at line end body last known eights small s t =
+  entries-there [] at line end body last known cards small s t = refl
+  entries-there (curve ∷ curves) at line end body last known cards small s t =
       let b : IsNumber line = omega arith in
       let names : List (List ℕ) = namesOf curves in
-      let bodies : List (List ℕ) = bodiesOf curves in
+      let bodies : List (List ℤ) = bodiesOf curves in
       let size : nameAt text at ≡ length (curve .name) = name-there (curve .name) names at line end (known .0) b s in
-      let numbers : numbersAt cardNumbers text body ≡ curve .numbers = body-there (curve .numbers) bodies body last (eights .0) t .1 in
-      let rest : entriesFrom (length curves) text (afterHeading text at) (afterNumbers cardNumbers text body)
+      let numbers : numbersAt frontNumbers text body ≡ curve .numbers = body-there (curve .numbers) bodies body last (cards .0) t .1 in
+      let rest : entriesFrom (length curves) text (afterHeading text at) (afterNumbers frontNumbers text body)
       ≡ entries (at + length (contentsText (curve .name) line)) (line + 1) curves =
-      (λ i. entriesFrom (length curves) text (after-there (curve .name) names at line end (known .0) b s i) (numbers-end (curve .numbers) bodies body last (eights .0) t i))
-      ∙ entries-there curves _ (line + 1) end _ last (known .1) (eights .1) (omega arith)
-      (lines-behind (curve .name) names at line end (known .0) b s) (bodies-behind (curve .numbers) bodies body last (eights .0) t) in
-      λ i. (at ∷ size i ∷ numbers i) ++ rest i
+      (λ i. entriesFrom (length curves) text (after-there (curve .name) names at line end (known .0) b s i) (numbers-end (curve .numbers) bodies body last (cards .0) t i))
+      ∙ entries-there curves _ (line + 1) end _ last (known .1) (cards .1) (omega arith)
+      (lines-behind (curve .name) names at line end (known .0) b s) (bodies-behind (curve .numbers) bodies body last (cards .0) t) in
+      λ i. (pos at ∷ pos (size i) ∷ numbers i) ++ rest i

@@ -4,6 +4,7 @@ use Prim.Native.Nat.{ℕ, _+_, _*_, _≤_}
 use mathlib.Core.Path.{_≡_, refl, sym, ap, _∙_, subst}
 use mathlib.Core.List.{List, [], _++_}
 use native.Mathlib.Omega.{arith}
+use lib.IntN.{ℤ, pos}
 use lib.ListN.{length, drop, replicate, length-replicate}
 use lib.Dec.{ltb}
 use borrow.Author.Tests.{ltb-false}
@@ -70,18 +71,18 @@ module _ (lines : LineTheorem) where
         ∙ entries-there lines text curves (contentsPlace curves) (n + 2) (bodiesPlace curves) (bodiesPlace curves) (length text)
         (book .names) (book .bodies) (omega (arith, few)) (contents-stand curves) (bodies-stand curves)
 
-    reply-accepted : (list : List ℕ) → leastList ≤ length list → replyToBook text (length list) ≡ acceptedOf n
+    reply-accepted : (list : List ℤ) → leastList ≤ length list → replyToBook text (length list) ≡ acceptedOf n
     reply-accepted list h = reply-text text (length list) h ∙ text-accepted
 
-    list-given : (list : List ℕ) → leastList ≤ length list → listAfter text list ≡ bookEntries curves ++ drop (curveWidth * n) list
+    list-given : (list : List ℤ) → leastList ≤ length list → listAfter text list ≡ bookEntries curves ++ drop (curveWidth * n) list
     list-given list h =
         list-filled text list (acceptedOf n) (sym text-accepted) h refl
-        ∙ ap (λ (l : List ℕ). l ++ drop (curveWidth * n) list) entries-given
+        ∙ ap (λ (l : List ℤ). l ++ drop (curveWidth * n) list) entries-given
 
-    curves-given : (rest : List ℕ) → curvesIn n text (bookEntries curves ++ rest) ≡ curves
+    curves-given : (rest : List ℤ) → curvesIn n text (bookEntries curves ++ rest) ≡ curves
     curves-given rest = curves-read text curves (contentsPlace curves) (n + 2) (bodiesPlace curves) rest (book .bodies) (contents-stand curves)
 
-  only-books : (text list : List ℕ) → (replyToBook text (length list)) .number ≡ 0 → (leastList ≤ length list) × TextOfBook text
+  only-books : (text : List ℕ) (list : List ℤ) → (replyToBook text (length list)) .number ≡ 0 → (leastList ≤ length list) × TextOfBook text
   unfolding replyToBook
   only-books text list =
       cond-case (λ (r : BookReply). r .number ≡ 0 → (leastList ≤ length list) × TextOfBook text) (ltb (length list) leastList) (refusedOf 28 0) (textReply text)
@@ -91,8 +92,8 @@ module _ (lines : LineTheorem) where
   -- one text gives one list, and the list the curves
   one-book : (curves others : List Curve) → IsBook curves → IsBook others → bookText curves ≡ bookText others → curves ≡ others
   one-book curves others book other same =
-      let list : List ℕ = replicate leastList 0 in
-      let room : leastList ≤ length list = omega (arith, length-replicate {A = ℕ} leastList 0) in
+      let list : List ℤ = replicate leastList (pos 0) in
+      let room : leastList ≤ length list = omega (arith, length-replicate {A = ℤ} leastList (pos 0)) in
       let count : length curves ≡ length others =
       ap (λ (r : BookReply). r .count)
       (sym (reply-accepted curves book list room) ∙ ap (λ (t : List ℕ). replyToBook t (length list)) same ∙ reply-accepted others other list room) in

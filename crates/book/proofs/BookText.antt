@@ -5,16 +5,17 @@ use mathlib.Core.Path.{_≡_, refl, sym, ap, _∙_, subst}
 use mathlib.Core.List.{List, [], _∷_, _++_, append-assoc, append-nil}
 use native.Mathlib.Omega.{arith}
 use native.Mathlib.Nat.{zero-add}
+use lib.IntN.{ℤ, pos, negsuc}
 use lib.ListN.{length, take, drop, length-append, length-map}
 use lib.Dec.{ltb}
 use borrow.Author.Tests.{ltb-true, ltb-false}
-use lib.Seq.{take-append-seam, take-at, drop-at, drop-length}
+use lib.Seq.{take-append-seam, take-at, drop-at, drop-length, length-take-le}
 use Rattle.decimal.specs.Decimal.{Each, digitsText}
 use Rattle.decimal.proofs.Choices.{cond-case}
 use Rattle.decimal.proofs.Digits.{digits-most, digits-few}
 use Rattle.card_list.specs.List.{namePlaceIn}
 use Rattle.book.specs.Body.{cardNumbers, endOf}
-use Rattle.book.specs.Printed.{IsName, IsBody, IsBook, Curve, numberText, contentsText, contentsTexts, bodyText, bodyTexts, namesOf, bodiesOf, bookText, greatestBook}
+use Rattle.book.specs.Printed.{IsName, IsCount, IsBody, IsBook, Curve, numberText, signedNumberText, numbersText, eightOf, markOf, heightOf, gradeOf, isNought, shownNumbers, contentsText, contentsTexts, bodyText, bodyTexts, namesOf, bodiesOf, bookText, greatestBook}
 use Rattle.book.specs.LineMeaning.{Stands}
 use Rattle.book.specs.Meaning.{entries, curveIn, curvesIn}
 use Rattle.book.proofs.Standing.{stands-front, stands-back}
@@ -30,17 +31,41 @@ bodies-length curves = length-map curves (λ (curve : Curve). curve .numbers)
 number-most : (v end : ℕ) → length (numberText v end) ≤ 8
 number-most v end = omega (arith, length-append (digitsText 7 v) (end ∷ []), digits-most 7 v)
 
-body-most : (numbers : List ℕ) → length (bodyText numbers) ≤ 8 * length numbers
-unfolding bodyText
-body-most [] = omega arith
-body-most (v ∷ numbers) =
-    omega (arith, length-append (numberText v (endOf (length numbers))) (bodyText numbers), number-most v (endOf (length numbers)), body-most numbers)
+-- a minus is a byte more
+signed-most : (z : ℤ) (end : ℕ) → length (signedNumberText z end) ≤ 9
+unfolding signedNumberText
+signed-most (pos n) end = omega (arith, number-most n end)
+signed-most (negsuc n) end = omega (arith, number-most (suc n) end)
 
-bodies-most : (bodies : List (List ℕ)) → Each IsBody bodies → length (bodyTexts bodies) ≤ 64 * length bodies
+numbers-most : (numbers : List ℤ) → length (numbersText numbers) ≤ 9 * length numbers
+unfolding numbersText
+numbers-most [] = omega arith
+numbers-most (z ∷ numbers) =
+    omega (arith, length-append (signedNumberText z (endOf (length numbers))) (numbersText numbers), signed-most z (endOf (length numbers)), numbers-most numbers)
+
+-- numbers that are not below nought, and others behind them
+counts-most : (counts numbers : List ℤ) → Each IsCount counts → length (numbersText (counts ++ numbers)) ≤ 8 * length counts + 9 * length numbers
+unfolding Each numbersText signedNumberText
+counts-most [] numbers all = omega (arith, numbers-most numbers)
+counts-most (pos n ∷ counts) numbers all =
+    let end : ℕ = endOf (length (counts ++ numbers)) in
+    omega (arith, length-append (numberText n end) (numbersText (counts ++ numbers)), number-most n end, counts-most counts numbers (all .1))
+counts-most (negsuc n ∷ counts) numbers all = absurd (all .0)
+
+pub body-most : (numbers : List ℤ) → IsBody numbers → length (bodyText numbers) ≤ 82
+unfolding bodyText shownNumbers
+body-most numbers body =
+    let eight : length (eightOf numbers) ≡ 8 = length-take-le 8 numbers (omega (arith, body .eleven)) in
+    let two : List ℤ = heightOf numbers ∷ gradeOf numbers ∷ [] in
+    cond-case (λ (last : List ℤ). length (numbersText (eightOf numbers ++ last)) ≤ 82) (isNought (markOf numbers)) [] two
+    (λ t. omega (arith, eight, counts-most (eightOf numbers) [] (body .eight)))
+    (λ t. omega (arith, eight, counts-most (eightOf numbers) two (body .eight)))
+
+bodies-most : (bodies : List (List ℤ)) → Each IsBody bodies → length (bodyTexts bodies) ≤ 82 * length bodies
 unfolding Each bodyTexts
-bodies-most [] eights = omega arith
-bodies-most (numbers ∷ bodies) eights =
-    omega (arith, length-append (bodyText numbers) (bodyTexts bodies), body-most numbers, eights .0 .eight, bodies-most bodies (eights .1))
+bodies-most [] cards = omega arith
+bodies-most (numbers ∷ bodies) cards =
+    omega (arith, length-append (bodyText numbers) (bodyTexts bodies), body-most numbers (cards .0), bodies-most bodies (cards .1))
 
 -- a number below a power of ten, and the byte that ends it
 number-few : (n v end : ℕ) → 1 ≤ n → v < 10 ^ n → length (numberText v end) ≤ n + 1
@@ -125,23 +150,23 @@ module _ (curves : List Curve) where
   bodies-stand = stands-back contents bodies behind-count
 
 -- the curves of the list that a book fills
-pub curves-read : (text : List ℕ) (curves : List Curve) (at line end : ℕ) (rest : List ℕ) → Each IsBody (bodiesOf curves)
+pub curves-read : (text : List ℕ) (curves : List Curve) (at line end : ℕ) (rest : List ℤ) → Each IsBody (bodiesOf curves)
     → Stands text at (contentsTexts line (namesOf curves)) end → curvesIn (length curves) text (entries at line curves ++ rest) ≡ curves
 unfolding Each contentsTexts entries curvesIn curveIn namePlaceIn
-curves-read text [] at line end rest eights s = refl
-curves-read text (curve ∷ curves) at line end rest eights s =
+curves-read text [] at line end rest cards s = refl
+curves-read text (curve ∷ curves) at line end rest cards s =
     let next : ℕ = at + length (contentsText (curve .name) line) in
-    let later : List ℕ = entries next (line + 1) curves in
+    let later : List ℤ = entries next (line + 1) curves in
     let first : Stands text at (contentsText (curve .name) line) next = stands-front (contentsText (curve .name) line) _ s in
     let name : take (length (curve .name)) (drop at text) ≡ curve .name =
     ap (take (length (curve .name))) (first .there ∙ append-assoc (curve .name) (32 ∷ numberText line 10) (drop next text))
     ∙ take-append-seam (curve .name) _ in
     let joined : curve .numbers ++ later ++ rest ≡ curve .numbers ++ (later ++ rest) = append-assoc (curve .numbers) later rest in
     let numbers : take cardNumbers (curve .numbers ++ later ++ rest) ≡ curve .numbers =
-    ap (take cardNumbers) joined ∙ take-at (curve .numbers) (later ++ rest) cardNumbers (eights .0 .eight) in
+    ap (take cardNumbers) joined ∙ take-at (curve .numbers) (later ++ rest) cardNumbers (cards .0 .eleven) in
     let others : drop cardNumbers (curve .numbers ++ later ++ rest) ≡ later ++ rest =
-    ap (drop cardNumbers) joined ∙ drop-at (curve .numbers) (later ++ rest) cardNumbers (eights .0 .eight) in
+    ap (drop cardNumbers) joined ∙ drop-at (curve .numbers) (later ++ rest) cardNumbers (cards .0 .eleven) in
     let tail : curvesIn (length curves) text (drop cardNumbers (curve .numbers ++ later ++ rest)) ≡ curves =
     ap (curvesIn (length curves) text) others
-    ∙ curves-read text curves next (line + 1) end rest (eights .1) (stands-back (contentsText (curve .name) line) _ s) in
+    ∙ curves-read text curves next (line + 1) end rest (cards .1) (stands-back (contentsText (curve .name) line) _ s) in
     λ i. record { name = name i; numbers = numbers i } ∷ tail i

@@ -5,6 +5,7 @@ pub mod Replies
 pub mod Stores
 pub mod Standing
 pub mod NumberText
+pub mod SignedText
 pub mod NameText
 pub mod ContentsLineText
 pub mod TwinText
@@ -22,6 +23,8 @@ pub mod BookMeaning
 pub mod BookReasons
 pub mod HandedCards
 pub mod RampReads
+pub mod BodyEdges
+pub mod WriterBodies
 pub mod WriterNames
 pub mod WriterLines
 pub mod WriterReplies

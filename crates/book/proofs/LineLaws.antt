@@ -1,20 +1,25 @@
 -- Contents lines and bodies at places of a text: how they are read step by step, and that the place after them lies inside the text.
 -- Assumes nothing.
 use Prim.Native.Nat.{ℕ, zero, suc, _+_, _-_, _≤_, _<_}
-use mathlib.Core.Path.{_≡_, refl, sym, ap, _∙_, subst}
+use mathlib.Core.Path.{_≡_, refl, ap, _∙_, subst}
 use mathlib.Core.Bool.{false}
 use mathlib.Core.List.{List}
 use native.Mathlib.Omega.{arith}
+use lib.IntN.{ℤ}
 use lib.ListN.{length}
 use lib.Dec.{eqb, lit<}
 use borrow.Author.Tests.{eq-eqb, ne-eqb}
 use Rattle.decimal.proofs.Choices.{cond-case, none-left}
-use Rattle.book.specs.Number.{numberAt}
+use Rattle.book.specs.Number.{byteAt, numberAt, plainField, minusField, signedAt}
 use Rattle.book.specs.Name.{nameAt, twinAt}
 use Rattle.book.specs.Contents.{headed, headingAt, contentsLineOf, contentsLine}
-use Rattle.book.specs.Body.{cardNumbers, endOf, fieldThen, bodyFrom}
+use Rattle.book.specs.Body.{frontNumbers, endOf, graded, surveyed, absoluteLast, relativeOr, lastAt, fieldThen, lastLine, bodyFrom}
 use Rattle.book.specs.declared.text.Field.{Field}
 use Rattle.book.specs.declared.text.Field.the-variants.{Value, NoValue}
+use Rattle.book.specs.declared.text.SignedField.{SignedField}
+use Rattle.book.specs.declared.text.SignedField.the-variants.{Number, NoNumber}
+use Rattle.book.specs.declared.lines.LastNumbers.{LastNumbers}
+use Rattle.book.specs.declared.lines.LastNumbers.the-variants.{Last, NoLast}
 use Rattle.book.specs.declared.lines.Heading.{Heading}
 use Rattle.book.specs.declared.lines.Heading.the-variants.{Entry, NoEntry}
 use Rattle.book.specs.declared.lines.Line.{Line}
@@ -26,24 +31,22 @@ pub end-some : (k : ℕ) → (k ≡ 0 → ⊥) → endOf k ≡ 32
 end-some zero h = absurd (h refl)
 end-some (suc k) h = refl
 
--- the byte after a number is above 0
-pub end-above : (k : ℕ) → 0 < endOf k
-end-above zero = omega arith
-end-above (suc k) = omega arith
-
-module _ (text : List ℕ) (at k end : ℕ) (more : 0 < k) (ends : end ≡ endOf (k - 1)) where
-  -- one number of a body, and what follows it
-  pub body-turn : {f : Field} → numberAt text at end ≡ f → bodyFrom k text at ≡ fieldThen f (bodyFrom (k - 1) text)
+module _ (text : List ℕ) (at k : ℕ) (more : 0 < k) where
+  -- one number of a body before its unit, and what follows it
+  pub body-turn : {f : Field} → numberAt text at 32 ≡ f → bodyFrom k text at ≡ fieldThen f (bodyFrom (k - 1) text)
   unfolding bodyFrom
   body-turn q =
       let p : k ≡ suc (k - 1) = omega arith in
-      ap (λ (m : ℕ). bodyFrom m text at) p
-      ∙ ap (λ (g : Field). fieldThen g (bodyFrom (k - 1) text)) (ap (numberAt text at) (sym ends) ∙ q)
+      ap (λ (m : ℕ). bodyFrom m text at) p ∙ ap (λ (g : Field). fieldThen g (bodyFrom (k - 1) text)) q
 
--- after its last number a body ends
-pub body-none : (text : List ℕ) (at k : ℕ) → k ≤ 0 → bodyFrom k text at ≡ Next at
-unfolding bodyFrom
+-- before the unit no number is left
+pub body-none : (text : List ℕ) (at k : ℕ) → k ≤ 0 → bodyFrom k text at ≡ bodyFrom 0 text at
 body-none text at = none-left (λ k. bodyFrom k text at)
+
+-- from the unit on, by the last numbers
+pub body-last : (text : List ℕ) (at : ℕ) {l : LastNumbers} → lastAt text at ≡ l → bodyFrom 0 text at ≡ lastLine l
+unfolding bodyFrom
+body-last text at e = ap lastLine e
 
 -- a body's only fault is 26
 abbrev pub Faults26 : Line → Type 0
@@ -54,10 +57,14 @@ field-26 : (f : Field) (go : ℕ → Line) → ((p : ℕ) → Faults26 (go p)) �
 field-26 (Value v next) go h = h next
 field-26 NoValue go h = refl
 
+last-26 : (l : LastNumbers) → Faults26 (lastLine l)
+last-26 (Last unit mark height grade next) = tt
+last-26 NoLast = refl
+
 pub body-26 : (k : ℕ) (text : List ℕ) (at : ℕ) → Faults26 (bodyFrom k text at)
 unfolding bodyFrom
-body-26 zero text at = tt
-body-26 (suc k) text at = field-26 (numberAt text at (endOf k)) (bodyFrom k text) (λ p. body-26 k text p)
+body-26 zero text at = last-26 (lastAt text at)
+body-26 (suc k) text at = field-26 (numberAt text at 32) (bodyFrom k text) (λ p. body-26 k text p)
 
 -- the place after a line is at most m
 abbrev LineIn : ℕ → Line → Type 0
@@ -68,15 +75,69 @@ field-then-in : (m : ℕ) (f : Field) (go : ℕ → Line) → FieldIn m f → ((
 field-then-in m (Value v next) go h r = r next h
 field-then-in m NoValue go h r = tt
 
+-- the same of a signed number, and of the last numbers
+abbrev SignedIn : ℕ → SignedField → Type 0
+SignedIn m (Number z next) = next ≤ m
+SignedIn m NoNumber = Unit
+
+abbrev LastIn : ℕ → LastNumbers → Type 0
+LastIn m (Last unit mark height grade next) = next ≤ m
+LastIn m NoLast = Unit
+
+plain-in : (m : ℕ) (f : Field) → FieldIn m f → SignedIn m (plainField f)
+plain-in m (Value v next) h = h
+plain-in m NoValue h = tt
+
+minus-in : (m : ℕ) (f : Field) → FieldIn m f → SignedIn m (minusField f)
+minus-in m (Value zero next) h = tt
+minus-in m (Value (suc n) next) h = h
+minus-in m NoValue h = tt
+
+signed-in : (text : List ℕ) (end : ℕ) → 0 < end → (at : ℕ) → SignedIn (length text) (signedAt text at end)
+unfolding signedAt
+signed-in text end above at =
+    cond-case (SignedIn (length text)) (eqb (byteAt text at) 45) _ _
+    (λ t. minus-in (length text) (numberAt text (at + 1) end) (field-in text end above (at + 1)))
+    (λ t. plain-in (length text) (numberAt text at end) (field-in text end above at))
+
+-- the place after a signed number that was read
+pub signed-next : (text : List ℕ) (end : ℕ) → 0 < end → (at : ℕ) {z : ℤ} {next : ℕ} → signedAt text at end ≡ Number z next → next ≤ length text
+signed-next text end above at q = subst (SignedIn (length text)) q (signed-in text end above at)
+
+graded-in : (m unit : ℕ) (height : ℤ) (f : SignedField) → SignedIn m f → LastIn m (graded unit height f)
+graded-in m unit height (Number z next) h = h
+graded-in m unit height NoNumber h = tt
+
+module _ (text : List ℕ) where
+  surveyed-in : (unit : ℕ) (f : SignedField) → LastIn (length text) (surveyed text unit f)
+  surveyed-in unit (Number height next) = graded-in (length text) unit height (signedAt text next 10) (signed-in text 10 (lit< tt) next)
+  surveyed-in unit NoNumber = tt
+
+  absolute-in : (f : Field) → LastIn (length text) (absoluteLast text f)
+  absolute-in (Value unit next) = surveyed-in unit (signedAt text next 32)
+  absolute-in NoValue = tt
+
+  relative-in : (at : ℕ) (f : Field) → FieldIn (length text) f → LastIn (length text) (relativeOr text at f)
+  relative-in at (Value unit next) h = h
+  relative-in at NoValue h = absolute-in (numberAt text at 32)
+
+  last-in : (at : ℕ) → LastIn (length text) (lastAt text at)
+  unfolding lastAt
+  last-in at = relative-in at (numberAt text at 10) (field-in text 10 (lit< tt) at)
+
+last-line-in : (m : ℕ) (l : LastNumbers) → LastIn m l → LineIn m (lastLine l)
+last-line-in m (Last unit mark height grade next) h = h
+last-line-in m NoLast h = tt
+
 body-in : (k : ℕ) (text : List ℕ) (at : ℕ) → at ≤ length text → LineIn (length text) (bodyFrom k text at)
 unfolding bodyFrom
-body-in zero text at h = h
+body-in zero text at h = last-line-in (length text) (lastAt text at) (last-in text at)
 body-in (suc k) text at h =
-    field-then-in (length text) (numberAt text at (endOf k)) (bodyFrom k text) (field-in text (endOf k) (end-above k) at) (λ p l. body-in k text p l)
+    field-then-in (length text) (numberAt text at 32) (bodyFrom k text) (field-in text 32 (lit< tt) at) (λ p l. body-in k text p l)
 
 -- the place after a body lies inside the text or at its end
-pub body-next : (text : List ℕ) (at : ℕ) {p : ℕ} → at ≤ length text → bodyFrom cardNumbers text at ≡ Next p → p ≤ length text
-body-next text at h e = subst (LineIn (length text)) e (body-in cardNumbers text at h)
+pub body-next : (text : List ℕ) (at : ℕ) {p : ℕ} → at ≤ length text → bodyFrom frontNumbers text at ≡ Next p → p ≤ length text
+body-next text at h e = subst (LineIn (length text)) e (body-in frontNumbers text at h)
 
 module _ (text : List ℕ) (at : ℕ) where
   -- no name, no contents line

@@ -4,6 +4,7 @@ use Prim.Native.Nat.{ℕ, suc, _+_}
 use mathlib.Core.Path.{_≡_, refl, sym, ap, _∙_}
 use mathlib.Core.List.{List, [], _∷_, _++_, append-assoc, append-nil}
 use native.Mathlib.Omega.{arith}
+use lib.IntN.{ℤ}
 use lib.ListN.{length, drop, length-append}
 use Rattle.decimal.specs.Decimal.{Each}
 use Rattle.decimal.proofs.Choices.{each-more}
@@ -61,7 +62,7 @@ contents-more-text line (other ∷ names) name =
     ap (λ (r : List ℕ). contentsText other line ++ r) (contents-more-text (line + 1) names name ∙ ap (λ (k : ℕ). contentsTexts (line + 1) names ++ contentsText name k) z)
     ∙ sym (append-assoc (contentsText other line) (contentsTexts (line + 1) names) (contentsText name (line + suc (length names))))
 
-pub bodies-more-text : (bodies : List (List ℕ)) (numbers : List ℕ) → bodyTexts (bodies ++ (numbers ∷ [])) ≡ bodyTexts bodies ++ bodyText numbers
+pub bodies-more-text : (bodies : List (List ℤ)) (numbers : List ℤ) → bodyTexts (bodies ++ (numbers ∷ [])) ≡ bodyTexts bodies ++ bodyText numbers
 unfolding bodyTexts
 bodies-more-text [] numbers = append-nil (bodyText numbers)
 bodies-more-text (other ∷ bodies) numbers =

@@ -39,6 +39,11 @@ module _ (text : List ℕ) where
   run-most (suc k) at =
       cond-case (λ (n : ℕ). n ≤ suc k) (isNameByte (byteAt text at)) _ _ (λ t. omega (arith, run-most k (at + 1))) (λ t. omega arith)
 
+  -- so a name has at most eight
+  pub name-most : (at : ℕ) → nameAt text at ≤ 8
+  unfolding nameAt
+  name-most at = cond-case (λ (n : ℕ). n ≤ 8) (eqb (byteAt text (at + nameRun 8 text at)) 32) _ _ (λ t. run-most 8 at) (λ t. omega arith)
+
   pub run-bytes : (k at : ℕ) → NameBytes (take (nameRun k text at) (drop at text))
   unfolding nameRun Each
   run-bytes zero at = tt

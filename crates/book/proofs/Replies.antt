@@ -6,6 +6,7 @@ use mathlib.Core.Bool.{Bool, cond, _&&_, and-eq-true-iff}
 use mathlib.Core.List.{List, [], _∷_, _++_}
 use native.Mathlib.Omega.{arith}
 use native.Mathlib.Numerals.{add-one}
+use lib.IntN.{ℤ}
 use lib.ListN.{length, take, drop, set}
 use lib.Seq.{length-take-le, take-suc-set}
 use lib.Dec.{ltb, leb, eqb}
@@ -14,7 +15,7 @@ use Rattle.decimal.proofs.Choices.{cond-case}
 use Rattle.card_list.specs.List.{curveWidth}
 use Rattle.book.specs.Number.{numberAt}
 use Rattle.book.specs.Contents.{contentsLine}
-use Rattle.book.specs.Body.{cardNumbers, bodyFrom}
+use Rattle.book.specs.Body.{frontNumbers, bodyFrom}
 use Rattle.book.specs.Book.{mostCurves, mostBytes, leastList, refusedOf, acceptedOf, lineThen, bodiesFrom, contentsFrom, countThen, textReply, replyToBook, entriesOf, listBy, listAfter}
 use Rattle.book.specs.declared.text.Field.{Field}
 use Rattle.book.specs.declared.text.Field.the-variants.{Value, NoValue}
@@ -24,7 +25,7 @@ use Rattle.book.specs.declared.BookReply.{BookReply}
 
 module _ (text : List ℕ) (n i at : ℕ) where
   -- one body, and what follows it
-  pub bodies-turn : {l : Line} → i < n → bodyFrom cardNumbers text at ≡ l
+  pub bodies-turn : {l : Line} → i < n → bodyFrom frontNumbers text at ≡ l
       → bodiesFrom (n - i) text n i at ≡ lineThen l (n + i + 2) (bodiesFrom (n - (i + 1)) text n (i + 1))
   unfolding bodiesFrom
   bodies-turn h e =
@@ -119,7 +120,7 @@ module _ (P : BookReply → Type 0) (refused : (number line : ℕ) → P (refuse
   unfolding bodiesFrom
   bodies-hold zero text n i at h = cond-case P (eqb at (length text)) _ _ (λ t. h) (λ t. refused 27 (2 * n + 2))
   bodies-hold (suc k) text n i at h =
-      line-case P (bodyFrom cardNumbers text at) (n + i + 2) _ (λ p e. bodies-hold k text n (i + 1) p h) (λ f e. refused f (n + i + 2))
+      line-case P (bodyFrom frontNumbers text at) (n + i + 2) _ (λ p e. bodies-hold k text n (i + 1) p h) (λ f e. refused f (n + i + 2))
 
   contents-hold : (k : ℕ) (text : List ℕ) (n : ℕ) (earlier : List ℕ) (at : ℕ) → P (acceptedOf n) → P (contentsFrom k text n earlier at)
   unfolding contentsFrom
@@ -174,7 +175,7 @@ module _ (text : List ℕ) where
   unfolding replyToBook
   reply-text room h = simp (le-ltb _ _ h)
 
-module _ (text list : List ℕ) where
+module _ (text : List ℕ) (list : List ℤ) where
   -- a refused book leaves the list untouched
   pub list-kept : ((replyToBook text (length list)) .number ≡ 0 → ⊥) → listAfter text list ≡ list
   unfolding listAfter

@@ -5,6 +5,7 @@ use mathlib.Core.Path.{_≡_, refl, sym, ap, _∙_, subst}
 use mathlib.Core.List.{List, [], _∷_, _++_, append-assoc, append-nil}
 use native.Mathlib.Omega.{arith}
 use native.Mathlib.Nat.{suc-inj}
+use lib.IntN.{ℤ}
 use lib.ListN.{length, drop}
 use Rattle.decimal.specs.Decimal.{Each}
 use Rattle.decimal.proofs.Choices.{each-more}
@@ -26,7 +27,7 @@ lines-name n names name =
     (append-nil (contentsTexts (n + 2) (names ++ (name ∷ []))) ∙ contents-more-text (n + 2) names name ∙ ap (λ (r : List ℕ). r ++ line) (sym (append-nil before)))
     ∙ sym (append-assoc (numberText n 10) (before ++ []) line)
 
-lines-body : (n : ℕ) (names bodies : List (List ℕ)) (numbers : List ℕ)
+lines-body : (n : ℕ) (names : List (List ℕ)) (bodies : List (List ℤ)) (numbers : List ℤ)
     → linesText n names (bodies ++ (numbers ∷ [])) ≡ linesText n names bodies ++ bodyText numbers
 lines-body n names bodies numbers =
     let before : List ℕ = contentsTexts (n + 2) names in
@@ -46,7 +47,7 @@ right-count text n next some few stands = record {
   few = few;
   known = tt;
   twins = tt;
-  eights = tt;
+  cards = tt;
   whole = stands .there ∙ ap (λ (r : List ℕ). r ++ drop next text) (sym (append-nil (numberText n 10)));
 }
 
@@ -60,50 +61,50 @@ module _ (text : List ℕ) (n : ℕ) (names : List (List ℕ)) (at next : ℕ) w
         few = right .few;
         known = each-more IsName names name (right .known) known;
         twins = twins-more names name (right .twins) differs;
-        eights = right .eights;
+        cards = right .cards;
         whole = longer text (linesText n names []) (contentsText name v) _ (drop at text) (drop next text) (right .whole) (stands .there)
             (lines-name n names name ∙ ap (λ (k : ℕ). linesText n names [] ++ contentsText name k) (sym place));
       }
 
-  pub right-body : (bodies : List (List ℕ)) (numbers : List ℕ) → Right text n names bodies (drop at text) → IsBody numbers
+  pub right-body : (bodies : List (List ℤ)) (numbers : List ℤ) → Right text n names bodies (drop at text) → IsBody numbers
       → Stands text at (bodyText numbers) next → Right text n names (bodies ++ (numbers ∷ [])) (drop next text)
-  right-body bodies numbers right eight stands = record {
+  right-body bodies numbers right card stands = record {
     some = right .some;
     few = right .few;
     known = right .known;
     twins = right .twins;
-    eights = each-more IsBody bodies numbers (right .eights) eight;
+    cards = each-more IsBody bodies numbers (right .cards) card;
     whole = longer text (linesText n names bodies) (bodyText numbers) _ (drop at text) (drop next text) (right .whole) (stands .there)
         (lines-body n names bodies numbers);
   }
 
 -- the curves with these names and bodies
-unfoldable paired : List (List ℕ) → List (List ℕ) → List Curve
+unfoldable paired : List (List ℕ) → List (List ℤ) → List Curve
 paired [] bodies = []
 paired (name ∷ names) [] = []
 paired (name ∷ names) (numbers ∷ bodies) = record { name = name; numbers = numbers } ∷ paired names bodies
 
-paired-length : (names bodies : List (List ℕ)) → length names ≡ length bodies → length (paired names bodies) ≡ length names
+paired-length : (names : List (List ℕ)) (bodies : List (List ℤ)) → length names ≡ length bodies → length (paired names bodies) ≡ length names
 unfolding paired
 paired-length [] bodies e = refl
 paired-length (name ∷ names) [] e = absurd (omega arith)
 paired-length (name ∷ names) (numbers ∷ bodies) e = ap suc (paired-length names bodies (suc-inj e))
 
-paired-names : (names bodies : List (List ℕ)) → length names ≡ length bodies → namesOf (paired names bodies) ≡ names
+paired-names : (names : List (List ℕ)) (bodies : List (List ℤ)) → length names ≡ length bodies → namesOf (paired names bodies) ≡ names
 unfolding paired
 paired-names [] bodies e = refl
 paired-names (name ∷ names) [] e = absurd (omega arith)
 paired-names (name ∷ names) (numbers ∷ bodies) e = ap (λ (r : List (List ℕ)). name ∷ r) (paired-names names bodies (suc-inj e))
 
-paired-bodies : (names bodies : List (List ℕ)) → length names ≡ length bodies → bodiesOf (paired names bodies) ≡ bodies
+paired-bodies : (names : List (List ℕ)) (bodies : List (List ℤ)) → length names ≡ length bodies → bodiesOf (paired names bodies) ≡ bodies
 unfolding paired
 paired-bodies [] [] e = refl
 paired-bodies [] (numbers ∷ bodies) e = absurd (omega arith)
 paired-bodies (name ∷ names) [] e = absurd (omega arith)
-paired-bodies (name ∷ names) (numbers ∷ bodies) e = ap (λ (r : List (List ℕ)). numbers ∷ r) (paired-bodies names bodies (suc-inj e))
+paired-bodies (name ∷ names) (numbers ∷ bodies) e = ap (λ (r : List (List ℤ)). numbers ∷ r) (paired-bodies names bodies (suc-inj e))
 
 -- all lines are right and no bytes are left: the text of a book
-pub right-book : (text : List ℕ) (n : ℕ) (names bodies : List (List ℕ)) → Right text n names bodies [] → length names ≡ n → length bodies ≡ n → TextOfBook text
+pub right-book : (text : List ℕ) (n : ℕ) (names : List (List ℕ)) (bodies : List (List ℤ)) → Right text n names bodies [] → length names ≡ n → length bodies ≡ n → TextOfBook text
 unfolding bookText
 right-book text n names bodies right all last =
     let same : length names ≡ length bodies = all ∙ sym last in
@@ -117,7 +118,7 @@ right-book text n names bodies right all last =
         some = omega (arith, size, right .some);
         few = omega (arith, size, right .few);
         names = subst (Each IsName) ns (right .known);
-        bodies = subst (Each IsBody) bs (right .eights);
+        bodies = subst (Each IsBody) bs (right .cards);
         twins = subst NoTwins ns (right .twins);
       };
       same = right .whole ∙ append-nil (linesText n names bodies) ∙ (λ i. linesText (m i) (ns i) (bs i));

@@ -5,6 +5,7 @@ use mathlib.Core.Path.{_≡_, refl, sym, ap, _∙_, subst}
 use mathlib.Core.Bool.{Bool, true, false, cond, _&&_, true≢false, and-eq-true-iff}
 use mathlib.Core.List.{List, [], _∷_, _++_}
 use native.Mathlib.Omega.{arith}
+use lib.IntN.{ℤ}
 use lib.ListN.{length, take, drop, length-drop, drop-of-length-le}
 use lib.Dec.{ltb, leb, eqb, lit<}
 use borrow.Author.Tests.{leb-true, le-leb, ltb-true, ltb-false, eqb-true, eqb-false, ne-eqb}
@@ -12,7 +13,7 @@ use Rattle.decimal.proofs.Choices.{cond-case}
 use Rattle.book.specs.Number.{numberAt, fieldValue}
 use Rattle.book.specs.Name.{twinAt}
 use Rattle.book.specs.Contents.{headingAt, contentsLineOf, contentsLine}
-use Rattle.book.specs.Body.{cardNumbers, bodyFrom, numbersAt}
+use Rattle.book.specs.Body.{frontNumbers, bodyFrom, numbersAt}
 use Rattle.book.specs.Book.{mostCurves, mostBytes, acceptedOf, refusedOf, lineThen, bodiesFrom, contentsFrom, countThen, textReply}
 use Rattle.book.specs.Printed.{numberText, contentsText, bodyText}
 use Rattle.book.specs.LineMeaning.{Starts, Named, LineTheorem}
@@ -37,7 +38,7 @@ MeantBy text reply = SaysOfLines text (reply .line) (reply .number)
 
 module _ (lines : LineTheorem) (text : List ℕ) where
   -- the last k bodies
-  bodies-meant : (k n : ℕ) (names bodies : List (List ℕ)) (at : ℕ) → Right text n names bodies (drop at text) → length names ≡ n
+  bodies-meant : (k n : ℕ) (names : List (List ℕ)) (bodies : List (List ℤ)) (at : ℕ) → Right text n names bodies (drop at text) → length names ≡ n
       → k + length bodies ≡ n → at ≤ length text → MeantBy text (bodiesFrom k text n (length bodies) at)
   unfolding bodiesFrom
   bodies-meant zero n names bodies at right all left inside =
@@ -53,15 +54,15 @@ module _ (lines : LineTheorem) (text : List ℕ) where
         bytes = λ e. eqb-false at (length text) t (omega (arith, length-drop at text, ap length e));
       })
   bodies-meant (suc k) n names bodies at right all left inside =
-      line-case (MeantBy text) (bodyFrom cardNumbers text at) (n + length bodies + 2) _
+      line-case (MeantBy text) (bodyFrom frontNumbers text at) (n + length bodies + 2) _
       (λ p e.
       let r = lines .body-read text at p e in
-      let numbers : List ℕ = numbersAt cardNumbers text at in
+      let numbers : List ℤ = numbersAt frontNumbers text at in
       let more : length (bodies ++ (numbers ∷ [])) ≡ length bodies + 1 = length-more bodies numbers in
       subst (λ (i : ℕ). MeantBy text (bodiesFrom k text n i p)) more
       (bodies-meant k n names (bodies ++ (numbers ∷ [])) p (right-body text n names at p bodies numbers right (r .0) (r .1)) all
       (omega arith) (stands-in text at (bodyText numbers) p (r .1) inside)))
-      (λ f e. subst (SaysOfLines text (n + length bodies + 2)) (sym (subst Faults26 e (body-26 cardNumbers text at))) (record {
+      (λ f e. subst (SaysOfLines text (n + length bodies + 2)) (sym (subst Faults26 e (body-26 frontNumbers text at))) (record {
         before = record { n = n; names = names; bodies = bodies; rest = drop at text; right = right; all = all };
         one = omega arith;
         place = refl;

@@ -2,16 +2,17 @@
 -- Assumes nothing.
 use Prim.Native.Nat.{ℕ, zero, suc, _+_, _≤_, _<_}
 use mathlib.Core.Path.{_≡_, refl, sym, ap, ap₂, _∙_, subst}
-use mathlib.Core.Bool.{Bool, true, false, cond, not, _&&_, _||_, false≢true}
+use mathlib.Core.Bool.{Bool, true, false, cond, not, _||_, false≢true}
 use mathlib.Core.List.{List, [], _∷_}
 use native.Mathlib.Omega.{arith}
 use native.Mathlib.Numerals.{add-one}
 use lib.ListN.{length, getD, take, drop, length-drop, drop-of-length-le}
 use lib.Seq.{drop-cons, getD-drop, getD-take, ext-getD, length-take-le}
 use lib.Dec.{eqb}
+use lib.IntN.{ℤ}
 use borrow.Author.Tests.{ltb-false, le-ltb, eqb-true, eq-eqb, not-false}
 use Rattle.decimal.specs.Decimal.{Each}
-use Rattle.decimal.proofs.Choices.{cond-case, or-none, neither-met, not-met}
+use Rattle.decimal.proofs.Choices.{cond-case, or-none, neither-met, both-met, not-met}
 use Rattle.card_list.specs.declared.NamePlace.{NamePlace}
 use Rattle.card_list.specs.List.{curveWidth, namePlaceIn, nameBytes}
 use Rattle.book.specs.Number.{byteAt}
@@ -115,12 +116,8 @@ same-is [] [] e = refl
 same-is [] (b ∷ other) e = absurd (false≢true e)
 same-is (a ∷ name) [] e = absurd (false≢true e)
 same-is (a ∷ name) (b ∷ other) e =
-    let both = and-both (eqb a b) (sameName name other) e in
+    let both = both-met (eqb a b) (sameName name other) e in
     ap₂ (λ (x : ℕ) (xs : List ℕ). x ∷ xs) (eqb-true a b (both .0)) (same-is name other (both .1))
-  where
-    and-both : (p q : Bool) → (p && q) ≡ true → (p ≡ true) × (q ≡ true)
-    and-both true q h = (refl, h)
-    and-both false q h = absurd (false≢true h)
 
 pub same-self : (name : List ℕ) → sameName name name ≡ true
 unfolding sameName
@@ -164,7 +161,7 @@ module _ (names : List ℕ) (a b : NamePlace) (p : isWrong names a ≡ false) (q
 
 -- ---- the names of a list
 -- a key stands among those of some names exactly when its name does
-among-names : (n : ℕ) (names list : List ℕ) (at : NamePlace) → isWrong names at ≡ false → someWrong n names list ≡ false
+among-names : (n : ℕ) (names : List ℕ) (list : List ℤ) (at : NamePlace) → isWrong names at ≡ false → someWrong n names list ≡ false
     → among (keysIn n names list) (placeKey names at) ≡ isOneOf (nameBytes names at) (namesOf (curvesIn n names list))
 unfolding among keysIn someWrong isOneOf curvesIn curveIn
 among-names zero names list at p e = refl
@@ -178,7 +175,7 @@ among-names (suc n) names list at p e =
     or-cond false b = refl
 
 -- so two keys are the same exactly when two names are
-pub keys-twins : (n : ℕ) (names list : List ℕ) → someWrong n names list ≡ false
+pub keys-twins : (n : ℕ) (names : List ℕ) (list : List ℤ) → someWrong n names list ≡ false
     → twinKeys (keysIn n names list) ≡ hasTwins (namesOf (curvesIn n names list))
 unfolding twinKeys keysIn someWrong hasTwins curvesIn curveIn
 keys-twins zero names list e = refl

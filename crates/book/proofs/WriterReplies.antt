@@ -6,6 +6,7 @@ use mathlib.Core.Bool.{Bool, true, false, cond, not}
 use mathlib.Core.List.{List, _++_}
 use native.Mathlib.Omega.{arith}
 use lib.Dec.{eqb}
+use lib.IntN.{ℤ}
 use lib.ListN.{length, drop}
 use lib.Seq.{sets, sets-eq}
 use borrow.Author.Tests.{ltb-false, eqb-true, eq-eqb, ne-eqb, not-false}
@@ -16,11 +17,11 @@ use Rattle.card.specs.Table.{replyBy}
 use Rattle.card_list.specs.List.{curveWidth}
 use Rattle.book.specs.Book.{mostCurves}
 use Rattle.book.specs.Printed.{Curve, bodiesOf, bookText}
-use Rattle.book.specs.Writing.{curveCount, curvesOf, notTens, someLong, wrongList, twinned, tooLong, writerNumber, replyToList, bufferAfter}
+use Rattle.book.specs.Writing.{curveCount, curvesOf, wrongLength, someUnfit, wrongList, twinned, unwritable, writerNumber, replyToList, bufferAfter}
 
--- ten numbers for each of 1 to 64 curves
-pub tens-of : (size : ℕ) → notTens size ≡ false → (size ≡ curveWidth * curveCount size) × ((1 ≤ curveCount size) × (curveCount size ≤ mostCurves))
-tens-of size e =
+-- thirteen numbers for each of 1 to 64 curves
+pub length-of : (size : ℕ) → wrongLength size ≡ false → (size ≡ curveWidth * curveCount size) × ((1 ≤ curveCount size) × (curveCount size ≤ mostCurves))
+length-of size e =
     let both = or-none (not (eqb (size % curveWidth) 0)) (outside (curveCount size) 1 mostCurves) e in
     let range = or-none (curveCount size below 1) (curveCount size above mostCurves) (both .1) in
     let whole : size % curveWidth ≡ 0 = eqb-true (size % curveWidth) 0 (not-false (eqb (size % curveWidth) 0) (both .0)) in
@@ -31,11 +32,11 @@ module _ (a b c : Bool) where
   abbrev pub given : ℕ
   given = cond a 31 (cond b 32 (cond c 33 0))
 
-module _ (list names : List ℕ) where
+module _ (list : List ℤ) (names : List ℕ) where
   abbrev curves : List Curve
   curves = curvesOf list names
 
-  pub number-is : (room : ℕ) → writerNumber list names room ≡ given (wrongList list names) (twinned list names) (tooLong list names room)
+  pub number-is : (room : ℕ) → writerNumber list names room ≡ given (wrongList list names) (twinned list names) (unwritable list names room)
   unfolding writerNumber
   number-is room = refl
 
@@ -72,11 +73,11 @@ module _ (list names : List ℕ) where
       pub answered-twin : wrongList list names ≡ false → twinned list names ≡ true → reply ≡ replyBy 32 0 → Answered buffer reply buffer
       answered-twin a b r = answered-refused 32 (number-is (length buffer) ∙ rw (a, b)) (λ z. omega arith) r
 
-      pub answered-short : wrongList list names ≡ false → twinned list names ≡ false → tooLong list names (length buffer) ≡ true → reply ≡ replyBy 33 0 → Answered buffer reply buffer
+      pub answered-short : wrongList list names ≡ false → twinned list names ≡ false → unwritable list names (length buffer) ≡ true → reply ≡ replyBy 33 0 → Answered buffer reply buffer
       answered-short a b c r = answered-refused 33 (number-is (length buffer) ∙ rw (a, b, c)) (λ z. omega arith) r
 
     -- a book that fits
-    module _ (a : wrongList list names ≡ false) (b : twinned list names ≡ false) (c : tooLong list names (length buffer) ≡ false) where
+    module _ (a : wrongList list names ≡ false) (b : twinned list names ≡ false) (c : unwritable list names (length buffer) ≡ false) where
       pub number-none : writerNumber list names (length buffer) ≡ 0
       number-none = number-is (length buffer) ∙ rw (a, b, c)
 
@@ -84,7 +85,7 @@ module _ (list names : List ℕ) where
           → after ≡ sets buffer 0 (bookText curves) → Answered buffer reply after
       unfolding replyBy
       answered-written p q s =
-          let both = or-none (length buffer below length (bookText curves)) (someLong (bodiesOf curves)) c in
+          let both = or-none (length buffer below length (bookText curves)) (someUnfit (bodiesOf curves)) c in
           let room : length (bookText curves) ≤ length buffer = ltb-false (length buffer) (length (bookText curves)) (both .0) in
           let z : 0 + length (bookText curves) ≡ length (bookText curves) = omega arith in (
             (λ i. record { number = p i; count = q i }) ∙ sym (reply-is number-none),

@@ -6,11 +6,12 @@ use mathlib.Core.List.{List, [], _∷_, _++_}
 use mathlib.Core.Bool.{cond, _&&_}
 use lib.ListN.{length, drop}
 use lib.Dec.{ltb, leb, eqb}
+use lib.IntN.{ℤ, pos}
 use Rattle.card_list.specs.List.{curveWidth}
 use Rattle.book.specs.Number.{numberAt, fieldNext}
 use Rattle.book.specs.Name.{nameAt}
 use Rattle.book.specs.Contents.{contentsLine, afterHeading}
-use Rattle.book.specs.Body.{cardNumbers, bodyFrom, numbersAt, afterNumbers}
+use Rattle.book.specs.Body.{frontNumbers, bodyFrom, numbersAt, afterNumbers}
 use Rattle.book.specs.declared.text.Field.{Field}
 use Rattle.book.specs.declared.text.Field.the-variants.{Value, NoValue}
 use Rattle.book.specs.declared.lines.Line.{Line}
@@ -24,9 +25,9 @@ mostCurves = 64
 abbrev pub mostBytes : ℕ
 mostBytes = 8192
 
--- the list has room for 64 curves, ten numbers each
+-- the list has room for 64 curves, thirteen numbers each
 abbrev pub leastList : ℕ
-leastList = 640
+leastList = 832
 
 -- a refused book gives its number, count 0 and the line; an accepted one number 0, the count of curves and line 0
 abbrev pub refusedOf : ℕ → ℕ → BookReply
@@ -44,7 +45,7 @@ lineThen (Fault number) line go = refusedOf number line
 unfoldable pub bodiesFrom : ℕ → List ℕ → ℕ → ℕ → ℕ → BookReply
 bodiesFrom zero text n i at = cond (eqb at (length text)) (acceptedOf n) (refusedOf 27 (2 * n + 2))
 bodiesFrom (suc k) text n i at =
-    lineThen (bodyFrom cardNumbers text at) (n + i + 2) (λ p. bodiesFrom k text n (i + 1) p)
+    lineThen (bodyFrom frontNumbers text at) (n + i + 2) (λ p. bodiesFrom k text n (i + 1) p)
 
 -- the last k of n contents lines, after those with names at the places `earlier`, and then the bodies;
 -- the i-th contents line, i from 1, names line n + 1 + i
@@ -69,7 +70,7 @@ textReply text =
     (cond (ltb mostBytes (length text)) (refusedOf 21 0)
     (countThen text (numberAt text 0 10)))
 
--- 28: a lent list of `room` numbers, below 640; then the text
+-- 28: a lent list of `room` numbers, below 832; then the text
 unfoldable pub replyToBook : List ℕ → ℕ → BookReply
 replyToBook text room = cond (ltb room leastList) (refusedOf 28 0) (textReply text)
 
@@ -81,23 +82,23 @@ unfoldable pub afterHeadings : ℕ → List ℕ → ℕ → ℕ
 afterHeadings zero text at = at
 afterHeadings (suc k) text at = afterHeadings k text (afterHeading text at)
 
--- ten numbers a curve: byte place of the name from 0, its length, and the eight numbers;
+-- thirteen numbers a curve: byte place of the name from 0, its length, and the eleven numbers of its card;
 -- its contents line stands at `heading` and its body at `body`
-unfoldable pub entryAt : List ℕ → ℕ → ℕ → List ℕ
-entryAt text heading body = heading ∷ nameAt text heading ∷ numbersAt cardNumbers text body
+unfoldable pub entryAt : List ℕ → ℕ → ℕ → List ℤ
+entryAt text heading body = pos heading ∷ pos (nameAt text heading) ∷ numbersAt frontNumbers text body
 
-unfoldable pub entriesFrom : ℕ → List ℕ → ℕ → ℕ → List ℕ
+unfoldable pub entriesFrom : ℕ → List ℕ → ℕ → ℕ → List ℤ
 entriesFrom zero text heading body = []
 entriesFrom (suc k) text heading body =
-    entryAt text heading body ++ entriesFrom k text (afterHeading text heading) (afterNumbers cardNumbers text body)
+    entryAt text heading body ++ entriesFrom k text (afterHeading text heading) (afterNumbers frontNumbers text body)
 
-unfoldable pub entriesOf : List ℕ → ℕ → List ℕ
+unfoldable pub entriesOf : List ℕ → ℕ → List ℤ
 entriesOf text n = entriesFrom n text (firstHeading text) (afterHeadings n text (firstHeading text))
 
--- accepted: ten numbers a curve, and the list's other numbers kept; refused: the whole list untouched
-abbrev pub listBy : BookReply → List ℕ → List ℕ → List ℕ
+-- accepted: thirteen numbers a curve, and the list's other numbers kept; refused: the whole list untouched
+abbrev pub listBy : BookReply → List ℕ → List ℤ → List ℤ
 listBy reply text list =
     cond (eqb (reply .number) 0) (entriesOf text (reply .count) ++ drop (curveWidth * reply .count) list) list
 
-unfoldable pub listAfter : List ℕ → List ℕ → List ℕ
+unfoldable pub listAfter : List ℕ → List ℤ → List ℤ
 listAfter text list = listBy (replyToBook text (length list)) text list

@@ -10,6 +10,7 @@ pub mod Cards
 pub mod Meaning
 pub mod Reasons
 pub mod RampBook
+pub mod BodyReadings
 pub mod Writing
 pub mod WriterSteps
 pub mod Written

@@ -5,14 +5,16 @@ use Prim.Native.Nat.{ℕ, _+_, _<_}
 use mathlib.Core.Path.{_≡_}
 use mathlib.Core.List.{List, [], _∷_, _++_}
 use mathlib.Core.Bool.{true, false}
+use lib.IntN.{ℤ}
 use lib.ListN.{length, take, drop}
 use Rattle.decimal.specs.Decimal.{digitOf, Each}
-use Rattle.book.specs.Number.{numberAt}
+use Rattle.book.specs.Number.{numberAt, signedAt}
 use Rattle.book.specs.Name.{twinAt}
 use Rattle.book.specs.Contents.{headingAt}
-use Rattle.book.specs.Body.{cardNumbers, bodyFrom, numbersAt}
-use Rattle.book.specs.Printed.{IsName, IsNumber, IsBody, Differs, numberText, contentsText, bodyText}
+use Rattle.book.specs.Body.{frontNumbers, bodyFrom, numbersAt}
+use Rattle.book.specs.Printed.{IsName, IsNumber, IsSigned, IsBody, Differs, numberText, signedNumberText, contentsText, bodyText}
 use Rattle.book.specs.declared.text.Field.the-variants.{Value}
+use Rattle.book.specs.declared.text.SignedField.the-variants.{Number}
 use Rattle.book.specs.declared.lines.Heading.the-variants.{Entry}
 use Rattle.book.specs.declared.lines.Line.the-variants.{Next}
 
@@ -41,6 +43,11 @@ pub record LineTheorem : Type 0 where
       → IsNumber v × Stands text at (numberText v end) next
   pub number-reads : (text : List ℕ) (at end v next : ℕ) → digitOf end ≡ 10 → IsNumber v → Stands text at (numberText v end) next
       → numberAt text at end ≡ Value v next
+  -- so with a signed number
+  pub signed-read : (text : List ℕ) (at end : ℕ) (z : ℤ) (next : ℕ) → 0 < end → signedAt text at end ≡ Number z next
+      → IsSigned z × Stands text at (signedNumberText z end) next
+  pub signed-reads : (text : List ℕ) (at end : ℕ) (z : ℤ) (next : ℕ) → digitOf end ≡ 10 → IsSigned z
+      → Stands text at (signedNumberText z end) next → signedAt text at end ≡ Number z next
   -- a contents line
   pub heading-read : (text : List ℕ) (at size v next : ℕ) → headingAt text at ≡ Entry size v next
       → (length (take size (drop at text)) ≡ size) × (IsName (take size (drop at text))
@@ -48,10 +55,10 @@ pub record LineTheorem : Type 0 where
   pub heading-reads : (text : List ℕ) (at : ℕ) (name : List ℕ) (v next : ℕ) → IsName name → IsNumber v
       → Stands text at (contentsText name v) next → headingAt text at ≡ Entry (length name) v next
   -- a body
-  pub body-read : (text : List ℕ) (at next : ℕ) → bodyFrom cardNumbers text at ≡ Next next
-      → IsBody (numbersAt cardNumbers text at) × Stands text at (bodyText (numbersAt cardNumbers text at)) next
-  pub body-reads : (text : List ℕ) (at : ℕ) (numbers : List ℕ) (next : ℕ) → IsBody numbers → Stands text at (bodyText numbers) next
-      → (bodyFrom cardNumbers text at ≡ Next next) × (numbersAt cardNumbers text at ≡ numbers)
+  pub body-read : (text : List ℕ) (at next : ℕ) → bodyFrom frontNumbers text at ≡ Next next
+      → IsBody (numbersAt frontNumbers text at) × Stands text at (bodyText (numbersAt frontNumbers text at)) next
+  pub body-reads : (text : List ℕ) (at : ℕ) (numbers : List ℤ) (next : ℕ) → IsBody numbers → Stands text at (bodyText numbers) next
+      → (bodyFrom frontNumbers text at ≡ Next next) × (numbersAt frontNumbers text at ≡ numbers)
   -- a twin name is one of the names at the earlier places
   pub twin-found : (text places : List ℕ) (names : List (List ℕ)) (at : ℕ) (name : List ℕ) → Named text places names → IsName name
       → Starts (drop at text) (name ++ (32 ∷ [])) → twinAt text places at (length name) ≡ true → Each (Differs name) names → ⊥

@@ -1,14 +1,18 @@
 -- Document 01, "The book of cards": numbers, each at a place of the text. A place counts bytes from 0.
--- Numbers are decimal, 1 to 7 digits, no leading zero but in 0 itself.
+-- Numbers are decimal, 1 to 7 digits, no leading zero but in 0 itself. Document 02, Slip 5: the last two of an absolute body have "an
+-- optional minus before a number other than 0".
 -- Assumes nothing.
 use Prim.Native.Nat.{ℕ, zero, suc, _+_, _*_}
 use mathlib.Core.List.{List}
 use mathlib.Core.Bool.{cond}
 use lib.ListN.{getD}
 use lib.Dec.{ltb, eqb}
+use lib.IntN.{pos, negsuc}
 use Rattle.decimal.specs.Decimal.{digitOf}
 use Rattle.book.specs.declared.text.Field.{Field}
 use Rattle.book.specs.declared.text.Field.the-variants.{Value, NoValue}
+use Rattle.book.specs.declared.text.SignedField.{SignedField}
+use Rattle.book.specs.declared.text.SignedField.the-variants.{Number, NoNumber}
 
 -- the byte at a place; past the end 0, which stands in no well-formed line
 abbrev pub byteAt : List ℕ → ℕ → ℕ
@@ -43,3 +47,18 @@ fieldValue NoValue = 0
 abbrev pub fieldNext : ℕ → Field → ℕ
 fieldNext at (Value v next) = next
 fieldNext at NoValue = at
+
+-- a number with no minus; one with a minus before it, which is not 0: `negsuc n` is −(n + 1)
+abbrev pub plainField : Field → SignedField
+plainField (Value v next) = Number (pos v) next
+plainField NoValue = NoNumber
+
+abbrev pub minusField : Field → SignedField
+minusField (Value zero next) = NoNumber
+minusField (Value (suc n) next) = Number (negsuc n) next
+minusField NoValue = NoNumber
+
+-- a signed number and the byte `end`: an optional minus (byte 45) before a number other than 0
+unfoldable pub signedAt : List ℕ → ℕ → ℕ → SignedField
+signedAt text at end =
+    cond (eqb (byteAt text at) 45) (minusField (numberAt text (at + 1) end)) (plainField (numberAt text at end))

@@ -5,10 +5,11 @@ use Prim.Native.Nat.{ℕ, zero, suc, _+_, _*_}
 use mathlib.Core.List.{List, [], _∷_, _++_, map}
 use mathlib.Core.Bool.{Bool, true, false, cond}
 use lib.Dec.{eqb}
+use lib.IntN.{ℤ}
 use Rattle.book.specs.Number.{byteAt}
 use Rattle.book.specs.Name.{nameRun, nameAt}
 use Rattle.book.specs.Contents.{afterHeading}
-use Rattle.book.specs.Body.{cardNumbers, afterNumbers}
+use Rattle.book.specs.Body.{frontNumbers, afterNumbers}
 use Rattle.book.specs.Book.{entryAt}
 use Rattle.book.specs.declared.text.ReadName.{ReadName}
 use Rattle.book.specs.declared.lines.Heading.{Heading}
@@ -55,8 +56,8 @@ unfoldable pub headingsFrom : ℕ → List ℕ → ℕ → List ℕ
 headingsFrom zero text at = []
 headingsFrom (suc k) text at = at ∷ headingsFrom k text (afterHeading text at)
 
--- ten numbers a curve, with the contents lines at these places and the bodies from `body` on
-unfoldable pub entriesBy : List ℕ → List ℕ → ℕ → List ℕ
+-- thirteen numbers a curve, with the contents lines at these places and the bodies from `body` on
+unfoldable pub entriesBy : List ℕ → List ℕ → ℕ → List ℤ
 entriesBy text [] body = []
 entriesBy text (heading ∷ headings) body =
-    entryAt text heading body ++ entriesBy text headings (afterNumbers cardNumbers text body)
+    entryAt text heading body ++ entriesBy text headings (afterNumbers frontNumbers text body)

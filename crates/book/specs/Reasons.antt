@@ -5,6 +5,7 @@ use Prim.Native.Nat.{ℕ, _+_, _*_, _≤_, _<_}
 use mathlib.Core.Path.{_≡_}
 use mathlib.Core.List.{List, [], _++_}
 use mathlib.Core.Bool.{cond}
+use lib.IntN.{ℤ}
 use lib.ListN.{length}
 use lib.Dec.{eqb}
 use Rattle.decimal.specs.Decimal.{Each}
@@ -14,12 +15,12 @@ use Rattle.book.specs.Meaning.{TextOfBook}
 use Rattle.book.specs.Printed.{IsName, IsNumber, IsBody, Differs, NoTwins, numberText, contentsText, bodyText, linesText}
 
 -- a right count line, `names` in right contents lines and `bodies` in right bodies stand before `rest`
-pub record Right (text : List ℕ) (n : ℕ) (names bodies : List (List ℕ)) (rest : List ℕ) : Type 0 where
+pub record Right (text : List ℕ) (n : ℕ) (names : List (List ℕ)) (bodies : List (List ℤ)) (rest : List ℕ) : Type 0 where
   pub some : 1 ≤ n
   pub few : n ≤ mostCurves
   pub known : Each IsName names
   pub twins : NoTwins names
-  pub eights : Each IsBody bodies
+  pub cards : Each IsBody bodies
   pub whole : text ≡ linesText n names bodies ++ rest
 
 -- 22: the text starts with no count line of 1 to 64
@@ -65,7 +66,7 @@ pub record TwinName (text : List ℕ) (line : ℕ) : Type 0 where
 pub record AtBodies (text : List ℕ) : Type 0 where
   pub n : ℕ
   pub names : List (List ℕ)
-  pub bodies : List (List ℕ)
+  pub bodies : List (List ℤ)
   pub rest : List ℕ
   pub right : Right text n names bodies rest
   pub all : length names ≡ n
@@ -75,7 +76,7 @@ pub record NoBody (text : List ℕ) (line : ℕ) : Type 0 where
   pub before : AtBodies text
   pub one : length (before .bodies) < before .n
   pub place : line ≡ before .n + length (before .bodies) + 2
-  pub none : (numbers : List ℕ) → IsBody numbers → Starts (before .rest) (bodyText numbers) → ⊥
+  pub none : (numbers : List ℤ) → IsBody numbers → Starts (before .rest) (bodyText numbers) → ⊥
 
 -- 27: bytes after the last body
 pub record Tail (text : List ℕ) (line : ℕ) : Type 0 where
@@ -108,7 +109,7 @@ abbrev pub SaysOfText : List ℕ → ℕ → ℕ → Type 0
 SaysOfText text line number =
     cond (eqb number 21) (WrongSize text line) (RightSize text × SaysOfLines text line number)
 
--- 28: a lent list below 640 numbers, no line's fault; else the text is looked at
+-- 28: a lent list below 832 numbers, no line's fault; else the text is looked at
 pub record ShortList (room line : ℕ) : Type 0 where
   pub short : room < leastList
   pub place : line ≡ 0
@@ -122,6 +123,6 @@ pub record ReasonsTheorem : Type 0 where
   pub says : (text : List ℕ) (room : ℕ) → Says text room ((replyToBook text room) .line) ((replyToBook text room) .number)
   -- a refused book gives a count of 0, and leaves the list untouched
   pub nought : (text : List ℕ) (room : ℕ) → ((replyToBook text room) .number ≡ 0 → ⊥) → (replyToBook text room) .count ≡ 0
-  pub kept : (text list : List ℕ) → ((replyToBook text (length list)) .number ≡ 0 → ⊥) → listAfter text list ≡ list
+  pub kept : (text : List ℕ) (list : List ℤ) → ((replyToBook text (length list)) .number ≡ 0 → ⊥) → listAfter text list ≡ list
   -- no reply counts more than 64 curves
   pub few : (text : List ℕ) (room : ℕ) → (replyToBook text room) .count ≤ mostCurves

@@ -1,7 +1,8 @@
-// Reads and writes a book of cards: a count line, a contents line for each curve, and a body of eight numbers for each.
+// Reads and writes a book of cards: a count line, a contents line for each curve, and a body of eight or ten numbers for each.
 mod lines;
 mod list_names;
 mod measure;
+mod numbers;
 mod reply;
 mod store;
 mod text;
@@ -20,16 +21,18 @@ ghost use mathlib.Core.Path.{_≡_};
 ghost use lib.ListN.{length};
 ghost use Rattle.card.specs.Table.{replyBy};
 ghost use Rattle.book.specs.Book.{replyToBook, listAfter};
-ghost use Rattle.book.specs.Writing.{notTens, replyToList, bufferAfter};
+ghost use Rattle.book.specs.Writing.{wrongLength, replyToList, bufferAfter};
 
-// At most 64 curves and 8192 bytes; eight numbers a card; a list has room for 64 curves.
+// At most 64 curves and 8192 bytes; eleven numbers a card, seven of them before the unit; a list has room for 64 curves.
 pub(crate) const MOST_CURVES: u32 = 64;
 
 pub const MOST_BYTES: usize = 8192;
 
-pub(crate) const CARD_NUMBERS: u32 = 8;
+pub(crate) const CARD_NUMBERS: usize = 11;
 
-pub const LEAST_LIST: usize = 640;
+pub(crate) const FRONT_NUMBERS: u32 = 7;
+
+pub const LEAST_LIST: usize = 832;
 
 // Room for the place, the size and the key of the name of each curve; no list to be written has more curves.
 pub(crate) const PLACES: usize = 64;
@@ -41,15 +44,15 @@ pub struct BookReply {
     pub line: u32,
 }
 
-// Reads a book of cards into the list, ten numbers a curve; a refused book leaves the list untouched.
-pub fn read_book(text: &[u8], list: &mut [u32]) -> BookReply
+// Reads a book of cards into the list, thirteen numbers a curve; a refused book leaves the list untouched.
+pub fn read_book(text: &[u8], list: &mut [i32]) -> BookReply
     ensures { λ r. ⌜ r ≡ replyToBook (now (text .entry)) (length (now (list .entry))) ⌝ }
     ensures { λ _. ⌜ now (list .exit) ≡ listAfter (now (text .entry)) (now (list .entry)) ⌝ }
 {
     if list.len() < LEAST_LIST {
         return refused(28, 0);
     }
-    let mut draft = [0u32; LEAST_LIST];
+    let mut draft = [0i32; LEAST_LIST];
     let reply = text_reply(text, &mut draft);
     let number = reply.number;
     if number != 0 {
@@ -67,9 +70,9 @@ fn unwritten(number: u32) -> Reply
     Reply { number, count: 0 }
 }
 
-// A list of so many numbers has not ten for each of 1 to 64 curves.
-fn not_tens(size: usize) -> bool
-    ensures { λ r. ⌜ r ≡ notTens size ⌝ }
+// A list of so many numbers has not thirteen for each of 1 to 64 curves.
+fn is_wrong_length(size: usize) -> bool
+    ensures { λ r. ⌜ r ≡ wrongLength size ⌝ }
 {
     if size % CURVE_WIDTH != 0 {
         return true;
@@ -78,12 +81,12 @@ fn not_tens(size: usize) -> bool
     n < 1 || n > PLACES
 }
 
-// Writes the book of a list of curves, ten numbers each, whose names stand in these bytes; a refused list leaves the buffer untouched.
-pub fn write_book(list: &[u32], names: &[u8], buffer: &mut [u8]) -> Reply
+// Writes the book of a list of curves, thirteen numbers each, whose names stand in these bytes; a refused list leaves the buffer untouched.
+pub fn write_book(list: &[i32], names: &[u8], buffer: &mut [u8]) -> Reply
     ensures { λ r. ⌜ r ≡ replyToList (now (list .entry)) (now (names .entry)) (length (now (buffer .entry))) ⌝ }
     ensures { λ _. ⌜ now (buffer .exit) ≡ bufferAfter (now (list .entry)) (now (names .entry)) (now (buffer .entry)) ⌝ }
 {
-    if not_tens(list.len()) {
+    if is_wrong_length(list.len()) {
         return unwritten(31);
     }
     let n = list.len() / CURVE_WIDTH;

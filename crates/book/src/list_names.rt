@@ -23,7 +23,7 @@ fn no_name() -> ReadName
 }
 
 // The name of a curve of the list; of size 0 where it is malformed, or outside the bytes.
-fn name_in(list: &[u32], names: &[u8], curve: usize) -> ReadName
+fn name_in(list: &[i32], names: &[u8], curve: usize) -> ReadName
     requires { ⌜ curve < mostCurves ⌝ }
     ensures { λ r. ⌜ r ≡ nameRead (now (names .entry)) (namePlaceIn (now (list .entry)) curve) ⌝ }
 {
@@ -45,7 +45,7 @@ fn name_in(list: &[u32], names: &[u8], curve: usize) -> ReadName
 }
 
 // Whether a name of the first n curves is wrong; if none is, their keys are kept.
-pub(crate) fn read_names(list: &[u32], names: &[u8], n: usize, keys: &mut [u64]) -> bool
+pub(crate) fn read_names(list: &[i32], names: &[u8], n: usize, keys: &mut [u64]) -> bool
     requires { ⌜ (n ≤ mostCurves) × (n ≤ length (now keys)) ⌝ }
     ensures { λ r. ⌜ r ≡ someWrong n (now (names .entry)) (now (list .entry)) ⌝ }
     ensures { λ r. ⌜ (r ≡ false → take n (now (keys .exit)) ≡ keysIn n (now (names .entry)) (now (list .entry))) ⌝ }

@@ -11,10 +11,12 @@ use crate::text::read_name;
 use crate::text::read_number;
 use card_list::CURVE_WIDTH;
 ghost use mathlib.Core.Path.{_≡_};
-ghost use Prim.Native.Nat.{_≤_};
+ghost use Prim.Native.Nat.{ℕ, _≤_, _<_};
 ghost use mathlib.Core.List.{[]};
 ghost use lib.ListN.{length};
 ghost use lib.Seq.{sets};
+ghost use Rattle.decimal.specs.Decimal.{Each};
+ghost use Rattle.book.specs.Name.{nameAt};
 ghost use Rattle.book.specs.Book.{mostCurves, mostBytes, leastList, bodiesFrom, contentsFrom, textReply, refusedOf, afterHeadings, entriesFrom, entriesOf};
 ghost use Rattle.book.specs.Reading.{sizesAt, entriesBy};
 
@@ -36,10 +38,11 @@ fn bodies(
     from: usize,
     places: &[u32],
     sizes: &[u32],
-    draft: &mut [u32],
+    draft: &mut [i32],
 ) -> BookReply
     requires { ⌜ (n ≤ mostCurves) × (from ≤ length (now text)) ⌝ }
     requires { ⌜ (length (now places) ≡ n) × (now sizes ≡ sizesAt (now text) (now places)) ⌝ }
+    requires { ⌜ (length (now text) ≤ mostBytes) × Each (λ (place : ℕ). 0 < nameAt (now text) place) (now places) ⌝ }
     requires { ⌜ leastList ≤ length (now draft) ⌝ }
     ensures { λ r. ⌜ r ≡ bodiesFrom n (now (text .entry)) n 0 from ⌝ }
     ensures { λ r. ⌜ (r .number ≡ 0 → (r .count ≡ n) × (now (draft .exit) ≡ sets (now (draft .entry)) 0 (entriesBy (now (text .entry)) (now (places .entry)) from))) ⌝ }
@@ -72,7 +75,7 @@ fn bodies(
 }
 
 // The n contents lines, and what follows them. The places and sizes of the names are kept for the draft, and their keys for the twin test.
-fn contents(text: &[u8], n: u32, first: usize, draft: &mut [u32]) -> BookReply
+fn contents(text: &[u8], n: u32, first: usize, draft: &mut [i32]) -> BookReply
     requires { ⌜ (n ≤ mostCurves) × ((length (now text) ≤ mostBytes) × (first ≤ length (now text))) ⌝ }
     requires { ⌜ leastList ≤ length (now draft) ⌝ }
     ensures { λ r. ⌜ r ≡ contentsFrom n (now (text .entry)) n [] first ⌝ }
@@ -107,7 +110,7 @@ fn contents(text: &[u8], n: u32, first: usize, draft: &mut [u32]) -> BookReply
 }
 
 // The reply to a text, where the list is long enough. Of an accepted text the curves stand in the draft afterwards.
-pub(crate) fn text_reply(text: &[u8], draft: &mut [u32]) -> BookReply
+pub(crate) fn text_reply(text: &[u8], draft: &mut [i32]) -> BookReply
     requires { ⌜ leastList ≤ length (now draft) ⌝ }
     ensures { λ r. ⌜ r ≡ textReply (now (text .entry)) ⌝ }
     ensures { λ r. ⌜ (r .number ≡ 0 → now (draft .exit) ≡ sets (now (draft .entry)) 0 (entriesOf (now (text .entry)) (r .count))) ⌝ }

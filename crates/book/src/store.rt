@@ -5,7 +5,7 @@ ghost use mathlib.Core.List.{_++_};
 ghost use lib.ListN.{length, take, drop};
 
 // Copies the first n numbers of the draft over the first n of the list.
-pub(crate) fn copy_numbers(draft: &[u32], n: usize, list: &mut [u32])
+pub(crate) fn copy_numbers(draft: &[i32], n: usize, list: &mut [i32])
     requires { ⌜ n ≤ length (now draft) ⌝ }
     requires { ⌜ n ≤ length (now list) ⌝ }
     ensures { λ _. ⌜ now (list .exit) ≡ take n (now (draft .entry)) ++ drop n (now (list .entry)) ⌝ }

@@ -3,14 +3,22 @@ ghost use mathlib.Core.Path.{_≡_};
 ghost use Prim.Native.Nat.{_≤_, _<_};
 ghost use lib.ListN.{length};
 ghost use lib.Dec.{ltb};
-ghost use Rattle.book.specs.Number.{byteAt, digitAt, endedAt, digitsAt, numberAt};
+ghost use lib.IntN.{pos};
+ghost use Rattle.book.specs.Number.{byteAt, digitAt, endedAt, digitsAt, numberAt, minusField, signedAt};
 ghost use Rattle.book.specs.Name.{isNameByte};
+ghost use Rattle.book.specs.Printed.{IsNumber};
 ghost use Rattle.book.specs.Reading.{runAt, readAt};
 
 // A number and the place after the byte that ends it.
 pub(crate) enum Field {
     Value { value: u32, next: usize },
     NoValue,
+}
+
+// A signed number and the place after the byte that ends it.
+pub(crate) enum SignedField {
+    Number { value: i32, next: usize },
+    NoNumber,
 }
 
 // A name as it is read: its size, and its bytes as one number.
@@ -104,6 +112,57 @@ pub(crate) fn read_number(text: &[u8], at: usize, end: u8) -> Field
         return ended(text, at + 1, 0, end);
     }
     digits(text, at + 1, d, end)
+}
+
+// A number with no minus, as the list has it.
+pub(crate) fn plain(v: u32) -> i32
+    requires { ⌜ IsNumber v ⌝ }
+    ensures { λ r. ⌜ r ≡ pos v ⌝ }
+{
+    v as i32
+}
+
+// A number with a minus before it, and the byte `end`: 0 has none.
+fn read_minus(text: &[u8], at: usize, end: u8) -> SignedField
+    requires { ⌜ (at ≤ length (now text)) × (0 < end) ⌝ }
+    ensures { λ r. ⌜ r ≡ minusField (numberAt (now (text .entry)) at end) ⌝ }
+{
+    let field = read_number(text, at, end);
+    match field {
+        Field::Value { value, next } => {
+            if value == 0 {
+                return SignedField::NoNumber;
+            }
+            let size = plain(value);
+            SignedField::Number {
+                value: 0 - size,
+                next,
+            }
+        }
+        Field::NoValue => SignedField::NoNumber,
+    }
+}
+
+// A signed number and the byte `end`: an optional minus before a number other than 0.
+pub(crate) fn read_signed(text: &[u8], at: usize, end: u8) -> SignedField
+    requires { ⌜ (at ≤ length (now text)) × (0 < end) ⌝ }
+    ensures { λ r. ⌜ r ≡ signedAt (now (text .entry)) at end ⌝ }
+{
+    let b = byte_at(text, at);
+    if b == b'-' {
+        return read_minus(text, at + 1, end);
+    }
+    let field = read_number(text, at, end);
+    match field {
+        Field::Value { value, next } => {
+            let number = plain(value);
+            SignedField::Number {
+                value: number,
+                next,
+            }
+        }
+        Field::NoValue => SignedField::NoNumber,
+    }
 }
 
 // Whether a capital or a digit stands at a place.

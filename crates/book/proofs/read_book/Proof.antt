@@ -13,7 +13,7 @@ use Rattle.book.proofs.read_book.Statement.{statement}
 use Rattle.book.proofs.read_book.Tie as tie
 
 -- past the first test the list is long enough
-long : (c : tie.Else1) → leastList ≤ length (c .before .before .before .args .list .now)
+long : (c : tie.Else1) → leastList ≤ length (c .before .before .args .list .now)
 long c = c .if1 .left
 
 -- past the second the text is accepted
@@ -25,7 +25,7 @@ refused-requires c κs = search needs
 
 returns : tie.Need-returns
 returns c =
-    let a = c .before .before .before .before .args in
+    let a = c .before .before .before .args in
     let short = reply-short (a .text .now) _ (c .before .if1 .taken) in
     let number : (replyToBook (a .text .now) (length (a .list .now))) .number ≡ 28 = ap (λ (r : BookReply). r .number) short in
     (c .refused .ensures ∙ sym short, sym (list-kept (a .text .now) (a .list .now) (λ z. omega arith)))
@@ -38,7 +38,7 @@ text-reply-requires c κs = search needs
 
 returns-2 : tie.Need-returns-2
 returns-2 c =
-    let a = c .before .before .before .before .before .before .before .args in
+    let a = c .before .before .before .before .before .before .args in
     let r = c .before .before .text-reply in
     let reply = r .ensures .0 ∙ sym (reply-text (a .text .now) _ (long (c .before .before .before .before))) in
     (reply, sym (list-kept (a .text .now) (a .list .now) (λ z. c .if2 .taken (ap (λ (q : BookReply). q .number) reply ∙ z))))
@@ -55,7 +55,7 @@ mul-copy-numbers c = search needs
 copy-numbers-requires : tie.Need-copy-numbers-requires
 copy-numbers-requires c κs =
     let r = c .before .before .before .before .before .text-reply in
-    let k = accepted-of (c .before .before .before .before .before .before .before .before .before .before .args .text .now) (r .result) (r .ensures .0) (accepted (c .before .before .before)) in
+    let k = accepted-of (c .before .before .before .before .before .before .before .before .before .args .text .now) (r .result) (r .ensures .0) (accepted (c .before .before .before)) in
     (omega (arith, k .0, r .kept .1 .0), omega (arith, k .0, long (c .before .before .before .before .before .before .before)))
 
 same-length : tie.Need-same-length
@@ -63,13 +63,13 @@ same-length c = search needs
 
 returns-3 : tie.Need-returns-3
 returns-3 c =
-    let a = c .before .before .before .before .before .before .before .before .before .before .before .before .before .args in
-    let h = long (c .before .before .before .before .before .before .before .before .before .before) in
-    let none = accepted (c .before .before .before .before .before .before) in
-    let r = c .before .before .before .before .before .before .before .before .text-reply in
+    let a = c .before .before .before .before .before .before .before .before .before .before .before .args in
+    let h = long (c .before .before .before .before .before .before .before .before .before) in
+    let none = accepted (c .before .before .before .before .before) in
+    let r = c .before .before .before .before .before .before .before .text-reply in
     let k = accepted-of (a .text .now) (r .result) (r .ensures .0) none in (
       r .ensures .0 ∙ sym (reply-text (a .text .now) _ h),
-      c .before .before .copy-numbers .ensures
+      c .before .copy-numbers .ensures
           ∙ drafted (a .text .now) (r .result .count) _ (r .last .1 .0) (a .list .now) (k .0) (search needs) (r .ensures .1 none)
           ∙ sym (list-filled (a .text .now) (a .list .now) (r .result) (r .ensures .0) h none),
     )

@@ -7,6 +7,7 @@ use mathlib.Core.List.{List}
 use native.Mathlib.Omega.{arith}
 use borrow.Author.Needs.{needs}
 use borrow.Author.Tests.{lt-ltb, le-ltb}
+use lib.IntN.{ℤ}
 use lib.ListN.{length}
 use lib.Seq.{length-take-le}
 use Rattle.decimal.proofs.Choices.{neither-met, second-met}
@@ -14,18 +15,18 @@ use Rattle.card.specs.Words.{_below_}
 use Rattle.card_list.specs.List.{curveWidth}
 use Rattle.book.specs.Book.{mostCurves}
 use Rattle.book.specs.Printed.{bodiesOf, bookText}
-use Rattle.book.specs.Writing.{curveCount, curvesOf, notTens, someWrong, someLong, wrongList, twinned, tooLong}
+use Rattle.book.specs.Writing.{curveCount, curvesOf, wrongLength, someWrong, someUnfit, wrongList, twinned, unwritable}
 use Rattle.book.specs.WriterSteps.{bodiesIn, twinKeys}
 use Rattle.book.proofs.BookText.{book-some, book-most}
 use Rattle.book.proofs.WriterNames.{keys-twins}
-use Rattle.book.proofs.WriterLines.{curves-bodies, size-long, size-whole}
-use Rattle.book.proofs.WriterReplies.{tens-of, answered-wrong, answered-twin, answered-short, number-none, answered-written}
+use Rattle.book.proofs.WriterLines.{curves-bodies, size-unfit, size-whole}
+use Rattle.book.proofs.WriterReplies.{length-of, answered-wrong, answered-twin, answered-short, number-none, answered-written}
 use Rattle.book.proofs.WriterMeaning.{is-book}
 use Rattle.book.proofs.write_book.Statement.{statement}
 use Rattle.book.proofs.write_book.Tie as tie
 
 module _ (s : tie.Start) where
-  abbrev list : List ℕ
+  abbrev list : List ℤ
   list = s .args .list .now
 
   abbrev names : List ℕ
@@ -40,31 +41,31 @@ module _ (s : tie.Start) where
   abbrev text : List ℕ
   text = bookText (curvesOf list names)
 
--- ---- ten numbers a curve
-abbrev at-tens : tie.Else1 → tie.Start
-at-tens e = e .before .before .before .before .before
+-- ---- thirteen numbers a curve
+abbrev at-sized : tie.Else1 → tie.Start
+at-sized e = e .before .before .before .before
 
-tens : (e : tie.Else1) → notTens (length (list (at-tens e))) ≡ false
-tens e = sym (e .before .not-tens .ensures) ∙ e .if1 .left
+sized : (e : tie.Else1) → wrongLength (length (list (at-sized e))) ≡ false
+sized e = sym (e .before .is-wrong-length .ensures) ∙ e .if1 .left
 
-few : (e : tie.Else1) → n (at-tens e) ≤ mostCurves
-few e = tens-of (length (list (at-tens e))) (tens e) .1 .1
+few : (e : tie.Else1) → n (at-sized e) ≤ mostCurves
+few e = length-of (length (list (at-sized e))) (sized e) .1 .1
 
-whole : (e : tie.Else1) → curveWidth * n (at-tens e) ≤ length (list (at-tens e))
-whole e = omega (arith, tens-of (length (list (at-tens e))) (tens e) .0)
+whole : (e : tie.Else1) → curveWidth * n (at-sized e) ≤ length (list (at-sized e))
+whole e = omega (arith, length-of (length (list (at-sized e))) (sized e) .0)
 
 -- ---- no name is wrong
-abbrev tens-of-names : tie.Else2 → tie.Else1
-tens-of-names e = e .before .before .before .before
+abbrev sized-names : tie.Else2 → tie.Else1
+sized-names e = e .before .before .before .before
 
 abbrev at-names : tie.Else2 → tie.Start
-at-names e = at-tens (tens-of-names e)
+at-names e = at-sized (sized-names e)
 
 right : (e : tie.Else2) → someWrong (n (at-names e)) (names (at-names e)) (list (at-names e)) ≡ false
 right e = sym (e .before .before .read-names .ensures .0) ∙ e .if2 .left
 
 no-wrong : (e : tie.Else2) → wrongList (list (at-names e)) (names (at-names e)) ≡ false
-no-wrong e = neither-met (notTens (length (list (at-names e)))) _ (tens (tens-of-names e)) (right e)
+no-wrong e = neither-met (wrongLength (length (list (at-names e)))) _ (sized (sized-names e)) (right e)
 
 -- ---- twins
 abbrev names-of-twin : tie.After-any-twin → tie.Else2
@@ -91,7 +92,7 @@ no-twin e = sym (twin-is (e .before)) ∙ e .if3 .left
 abbrev at-size : tie.After-book-size → tie.Start
 at-size b = at-untwinned (b .before)
 
-size-is : (b : tie.After-book-size) → let s = at-size b in b .book-size .result ≡ cond (someLong (bodiesIn (n s) (list s))) 0 (length (text s))
+size-is : (b : tie.After-book-size) → let s = at-size b in b .book-size .result ≡ cond (someUnfit (bodiesIn (n s) (list s))) 0 (length (text s))
 size-is b = let s = at-size b in b .book-size .ensures (names s) (right (names-of-twin (b .before .before)))
 
 -- the book fits
@@ -99,27 +100,27 @@ abbrev at-fits : tie.Else5 → tie.Start
 at-fits e = at-size (e .before .before)
 
 fits-size : (e : tie.Else5)
-    → let s = at-fits e in (someLong (bodiesIn (n s) (list s)) ≡ false) × (e .before .before .book-size .result ≡ length (text s))
-fits-size e = let s = at-fits e in size-whole (someLong (bodiesIn (n s) (list s))) (length (text s)) (size-is (e .before .before)) (e .before .if4 .left)
+    → let s = at-fits e in (someUnfit (bodiesIn (n s) (list s)) ≡ false) × (e .before .before .book-size .result ≡ length (text s))
+fits-size e = let s = at-fits e in size-whole (someUnfit (bodiesIn (n s) (list s))) (length (text s)) (size-is (e .before .before)) (e .before .if4 .left)
 
 long-enough : (e : tie.Else5) → length (text (at-fits e)) ≤ length (buffer (at-fits e))
 long-enough e = omega (arith, fits-size e .1, e .if5 .left)
 
-fits : (e : tie.Else5) → let s = at-fits e in tooLong (list s) (names s) (length (buffer s)) ≡ false
+fits : (e : tie.Else5) → let s = at-fits e in unwritable (list s) (names s) (length (buffer s)) ≡ false
 fits e =
     let s = at-fits e in
-    neither-met _ _ (le-ltb (length (buffer s)) (length (text s)) (long-enough e)) (ap someLong (curves-bodies (n s) (names s) (list s)) ∙ fits-size e .0)
+    neither-met _ _ (le-ltb (length (buffer s)) (length (text s)) (long-enough e)) (ap someUnfit (curves-bodies (n s) (names s) (list s)) ∙ fits-size e .0)
 
-not-tens-requires : tie.Need-not-tens-requires
-not-tens-requires c κs = search needs
+is-wrong-length-requires : tie.Need-is-wrong-length-requires
+is-wrong-length-requires c κs = search needs
 
 unwritten-requires : tie.Need-unwritten-requires
 unwritten-requires c κs = search needs
 
 returns : tie.Need-returns
 returns c =
-    let s = c .before .before .before .before .before .before in
-    let t : notTens (length (list s)) ≡ true = sym (c .before .before .not-tens .ensures) ∙ c .before .if1 .taken in
+    let s = c .before .before .before .before .before in
+    let t : wrongLength (length (list s)) ≡ true = sym (c .before .before .is-wrong-length .ensures) ∙ c .before .if1 .taken in
     answered-wrong (list s) (names s) (buffer s) (rw t) (c .unwritten .ensures)
 
 slice-aggregate-read-names : tie.Need-slice-aggregate-read-names
@@ -134,17 +135,17 @@ unwritten-requires-2 c κs = search needs
 returns-2 : tie.Need-returns-2
 returns-2 c =
     let r = c .before .before .before in
-    let s = at-tens (r .before .before) in
+    let s = at-sized (r .before .before) in
     let t : someWrong (n s) (names s) (list s) ≡ true = sym (r .read-names .ensures .0) ∙ c .before .if2 .taken in
-    answered-wrong (list s) (names s) (buffer s) (second-met (notTens (length (list s))) (someWrong (n s) (names s) (list s)) t) (c .unwritten2 .ensures)
+    answered-wrong (list s) (names s) (buffer s) (second-met (wrongLength (length (list s))) (someWrong (n s) (names s) (list s)) t) (c .unwritten2 .ensures)
 
 array-share-prefix-keys : tie.Need-array-share-prefix-keys
-array-share-prefix-keys c = omega (arith, few (tens-of-names c), c .before .before .read-names .kept .1 .1 .1 .0)
+array-share-prefix-keys c = omega (arith, few (sized-names c), c .before .before .read-names .kept .1 .1 .1 .0)
 
 slice-aggregate-any-twin : tie.Need-slice-aggregate-any-twin
 slice-aggregate-any-twin c =
     let r = c .before .before .before .read-names in
-    sym (length-take-le (n (at-names (c .before))) (r .last .1 .1 .1 .0) (omega (arith, few (tens-of-names (c .before)), r .kept .1 .1 .1 .0)))
+    sym (length-take-le (n (at-names (c .before))) (r .last .1 .1 .1 .0) (omega (arith, few (sized-names (c .before)), r .kept .1 .1 .1 .0)))
 
 any-twin-requires : tie.Need-any-twin-requires
 any-twin-requires c κs = search needs
@@ -159,7 +160,7 @@ returns-3 c =
     answered-twin (list s) (names s) (buffer s) (no-wrong (names-of-twin t)) (sym (twin-is t) ∙ c .before .if3 .taken) (c .unwritten3 .ensures)
 
 book-size-requires : tie.Need-book-size-requires
-book-size-requires c κs = let e = tens-of-names (names-of-twin (c .before)) in (few e, whole e)
+book-size-requires c κs = let e = sized-names (names-of-twin (c .before)) in (few e, whole e)
 
 unwritten-requires-4 : tie.Need-unwritten-requires-4
 unwritten-requires-4 c κs = search needs
@@ -168,8 +169,8 @@ returns-4 : tie.Need-returns-4
 returns-4 c =
     let b = c .before .before in
     let s = at-size b in
-    let long = size-long (someLong (bodiesIn (n s) (list s))) (length (text s)) (size-is b) (book-some (curvesOf (list s) (names s))) (c .before .if4 .taken) in
-    answered-short (list s) (names s) (buffer s) (no-wrong (names-of-twin (b .before .before))) (no-twin (b .before)) (second-met (length (buffer s) below length (text s)) (someLong (bodiesOf (curvesOf (list s) (names s)))) (ap someLong (curves-bodies (n s) (names s) (list s)) ∙ long)) (c .unwritten4 .ensures)
+    let unfit = size-unfit (someUnfit (bodiesIn (n s) (list s))) (length (text s)) (size-is b) (book-some (curvesOf (list s) (names s))) (c .before .if4 .taken) in
+    answered-short (list s) (names s) (buffer s) (no-wrong (names-of-twin (b .before .before))) (no-twin (b .before)) (second-met (length (buffer s) below length (text s)) (someUnfit (bodiesOf (curvesOf (list s) (names s)))) (ap someUnfit (curves-bodies (n s) (names s) (list s)) ∙ unfit)) (c .unwritten4 .ensures)
 
 unwritten-requires-5 : tie.Need-unwritten-requires-5
 unwritten-requires-5 c κs = search needs
@@ -178,7 +179,7 @@ returns-5 : tie.Need-returns-5
 returns-5 c =
     let b = c .before .before .before in
     let s = at-size b in
-    let size = size-whole (someLong (bodiesIn (n s) (list s))) (length (text s)) (size-is b) (c .before .before .if4 .left) in
+    let size = size-whole (someUnfit (bodiesIn (n s) (list s))) (length (text s)) (size-is b) (c .before .before .if4 .left) in
     answered-short (list s) (names s) (buffer s) (no-wrong (names-of-twin (b .before .before))) (no-twin (b .before))
     (rw (lt-ltb (length (buffer s)) (length (text s)) (omega (arith, size .1, c .before .if5 .taken)))) (c .unwritten5 .ensures)
 
@@ -186,7 +187,7 @@ write-lines-requires : tie.Need-write-lines-requires
 write-lines-requires c κs =
     let e = c .before in
     let r = names-of-twin (e .before .before .before .before) in
-    ((few (tens-of-names r), whole (tens-of-names r)), ((right r, fits-size e .0), long-enough e))
+    ((few (sized-names r), whole (sized-names r)), ((right r, fits-size e .0), long-enough e))
 
 -- a book is never too long for its count
 cast-count : tie.Need-cast-count
@@ -211,7 +212,7 @@ pub write-book-spec : {M : Type 1} → statement M
 write-book-spec =
     tie.close
     (tie.spec
-    not-tens-requires
+    is-wrong-length-requires
     unwritten-requires
     returns
     slice-aggregate-read-names

@@ -2,13 +2,19 @@
 -- Assumes nothing.
 use native.Mathlib.Omega.{arith}
 use Prim.Native.Nat.{_+_, _-_, _≤_}
-use mathlib.Core.Path.{_≡_, refl, sym, _∙_, subst}
+use mathlib.Core.Path.{_≡_, refl, sym, ap, _∙_, subst}
+use lib.Dec.{lit<}
+use lib.IntN.{ℤ, pos}
 use lib.ListN.{length, set, length-set}
 use lib.Seq.{sets}
 use borrow.Author.Needs.{needs}
-use Rattle.book.specs.Body.{cardNumbers, bodyFrom, numbersAt}
+use mir.Syntax.{w32}
+use mir.Val.{toZ, ofZ}
+use mir.Facts.{toZ-ofZ}
+use Rattle.book.specs.Body.{frontNumbers, bodyFrom, numbersAt}
 use Rattle.book.proofs.Places.{field-next}
-use Rattle.book.proofs.LineLaws.{end-above, body-turn, body-none}
+use Rattle.book.proofs.NumberText.{number-read}
+use Rattle.book.proofs.LineLaws.{body-turn, body-none}
 use Rattle.book.proofs.Outcomes.{IsNext}
 use Rattle.book.proofs.Stores.{stores-turn, stores-none}
 use Rattle.book.proofs.lines.body.Statement.{statement}
@@ -17,22 +23,19 @@ use Rattle.book.proofs.lines.body.Tie as tie
 abbrev Inv-loop : tie.InvT-loop
 Inv-loop text from draft₀ start at₀ out₀ left₀ draft at out left =
     (at ≤ length text)
-    × ((out + left ≤ length draft)
+    × ((out + left + 4 ≤ length draft)
     × ((length draft ≡ length draft₀)
-    × ((bodyFrom cardNumbers text from ≡ bodyFrom left text at)
-    × (sets draft₀ start (numbersAt cardNumbers text from) ≡ sets draft out (numbersAt left text at)))))
+    × ((bodyFrom frontNumbers text from ≡ bodyFrom left text at)
+    × (sets draft₀ start (numbersAt frontNumbers text from) ≡ sets draft out (numbersAt left text at)))))
 
 abbrev μ-loop : tie.MeasureT-loop
 μ-loop text from draft₀ start at₀ out₀ left₀ draft at out left = left
 
 loop-holds : tie.Need-loop-holds Inv-loop μ-loop
-loop-holds c = (search needs, (search needs, (refl, (refl, refl))))
+loop-holds c = (search needs, (omega arith, (refl, (refl, refl))))
 
 sub-left : tie.Need-sub-left Inv-loop μ-loop
 sub-left c = search needs
-
-end-byte-requires : tie.Need-end-byte-requires Inv-loop μ-loop
-end-byte-requires c κs = search needs
 
 read-number-requires : tie.Need-read-number-requires Inv-loop μ-loop
 read-number-requires c κs = search needs
@@ -40,11 +43,17 @@ read-number-requires c κs = search needs
 enum-known-field : tie.Need-enum-known-field Inv-loop μ-loop
 enum-known-field c = search needs
 
-mul-draft : tie.Need-mul-draft Inv-loop μ-loop
-mul-draft c = search needs
+plain-requires : tie.Need-plain-requires Inv-loop μ-loop
+plain-requires c κs =
+    let s = c .before .before .before .before .before .before .before .args .text .now in
+    let q = sym (c .before .before .before .read-number .ensures) ∙ c .before .field .given .1 in
+    number-read s 32 (lit< tt) _ _ _ q .0
 
-slice-write-draft : tie.Need-slice-write-draft Inv-loop μ-loop
-slice-write-draft c = search needs
+mul-number : tie.Need-mul-number Inv-loop μ-loop
+mul-number c = search needs
+
+slice-set-from-number : tie.Need-slice-set-from-number Inv-loop μ-loop
+slice-set-from-number c = search needs
 
 add-out : tie.Need-add-out Inv-loop μ-loop
 add-out c = search needs
@@ -54,22 +63,23 @@ loop-less c = search needs
 
 loop-again : tie.Need-loop-again Inv-loop μ-loop
 loop-again c =
-    let s = c .before .before .before .before .before .before .before .before .before .args .text .now in
+    let s = c .before .before .before .before .before .before .before .before .args .text .now in
     let l = c .before .before .before .before .before .before .loop in
-    let r = c .before .before .before .read-number in
-    let e = c .before .before .before .before .end-byte in
     let some = c .before .before .before .before .before .loop-test .taken in
-    let v = c .before .field .given .0 .0 in
-    let q = sym (r .ensures) ∙ c .before .field .given .1 in
-    let size : length (set (l .draft) (l .out) v) ≡ length (l .draft) = length-set (l .draft) (l .out) v in (
-      field-next s (e .result) (omega (arith, end-above (l .left - 1))) (l .at) q,
+    let v = c .before .before .field .given .0 .0 in
+    let q = sym (c .before .before .before .before .read-number .ensures) ∙ c .before .before .field .given .1 in
+    let number : toZ w32 (ofZ w32 (c .plain .result)) ≡ pos v = toZ-ofZ (record { sfits = c .plain .ok }) ∙ c .plain .ensures in
+    let size = length-set (l .draft) (l .out) (toZ w32 (ofZ w32 (c .plain .result))) in (
+      field-next s 32 (lit< tt) (l .at) q,
       (
-        omega arith,
+        omega (arith, size),
         (
           size ∙ l .inv .1 .1 .0,
           (
-            l .inv .1 .1 .1 .0 ∙ body-turn s (l .at) (l .left) (e .result) some (e .ensures) q,
-            l .inv .1 .1 .1 .1 ∙ stores-turn s (l .at) (l .left) (e .result) some (e .ensures) _ (sym q) (l .draft) (l .out) refl refl,
+            l .inv .1 .1 .1 .0 ∙ body-turn s (l .at) (l .left) some q,
+            l .inv .1 .1 .1 .1
+                ∙ stores-turn s (l .at) (l .left) (l .draft) (l .out) some q
+                ∙ ap (λ (z : ℤ). sets (set (l .draft) (l .out) z) (l .out + 1) (numbersAt (l .left - 1) s (c .before .before .field .given .0 .1 .0))) (sym number),
           ),
         ),
       ),
@@ -83,23 +93,29 @@ same-length c = search needs
 
 returns : tie.Need-returns Inv-loop μ-loop
 returns c =
-    let s = c .before .before .before .before .before .before .before .before .args .text .now in
-    let l = c .before .before .before .before .before .loop in
+    let s = c .before .before .before .before .before .before .args .text .now in
+    let l = c .before .before .before .before .loop in
     let r = c .before .before .read-number in
-    let e = c .before .before .before .end-byte in
-    let some = c .before .before .before .before .loop-test .taken in
+    let some = c .before .before .before .loop-test .taken in
     let q = sym (r .ensures) ∙ c .enum-told .given .1 in
-    (sym (l .inv .1 .1 .1 .0 ∙ body-turn s (l .at) (l .left) (e .result) some (e .ensures) q), λ p z. absurd (subst IsNext (sym z) tt))
+    (sym (l .inv .1 .1 .1 .0 ∙ body-turn s (l .at) (l .left) some q), λ p z. absurd (subst IsNext (sym z) tt))
+
+body-end-requires : tie.Need-body-end-requires Inv-loop μ-loop
+body-end-requires c κs = (search needs, omega arith)
 
 same-length-2 : tie.Need-same-length-2 Inv-loop μ-loop
-same-length-2 c = search needs
+same-length-2 c =
+    let l = c .before .before .before .before .loop in
+    c .before .body-end .kept .1 .1 .0 ∙ l .inv .1 .1 .0
 
 returns-2 : tie.Need-returns-2 Inv-loop μ-loop
 returns-2 c =
-    let s = c .before .before .before .before .args .text .now in
-    let l = c .before .loop in (
-      sym (l .inv .1 .1 .1 .0 ∙ body-none s (l .at) (l .left) (c .loop-test .left)),
-      λ p z. sym (l .inv .1 .1 .1 .1 ∙ stores-none s (l .at) (l .draft) (l .out) (l .left) (c .loop-test .left)),
+    let s = c .before .before .before .before .before .before .args .text .now in
+    let l = c .before .before .before .before .loop in
+    let none = c .before .before .before .loop-test .left in
+    let b = c .before .body-end in (
+      b .ensures .0 ∙ sym (l .inv .1 .1 .1 .0 ∙ body-none s (l .at) (l .left) none),
+      λ p z. b .ensures .1 p z ∙ sym (l .inv .1 .1 .1 .1 ∙ stores-none s (l .at) (l .draft) (l .out) (l .left) none),
     )
 
 pub body-spec : {M : Type 1} → statement M
@@ -110,16 +126,17 @@ body-spec =
     μ-loop
     loop-holds
     sub-left
-    end-byte-requires
     read-number-requires
     enum-known-field
-    mul-draft
-    slice-write-draft
+    plain-requires
+    mul-number
+    slice-set-from-number
     add-out
     loop-less
     loop-again
     enum-told
     same-length
     returns
+    body-end-requires
     same-length-2
     returns-2)

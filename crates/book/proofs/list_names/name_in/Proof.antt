@@ -28,7 +28,7 @@ no-name-requires c κs = search needs
 returns : tie.Need-returns
 returns c =
     let p = c .before .before .before .before .name-of-curve in
-    let names = c .before .before .before .before .before .before .before .args .names .now in
+    let names = c .before .before .before .before .before .before .args .names .now in
     read-wrong names (p .result) (past-wrong names (p .result) (c .before .if1 .taken)) (c .no-name .ensures .0) (c .no-name .ensures .1) ∙ ap (nameRead names) (p .ensures)
 
 no-name-requires-2 : tie.Need-no-name-requires-2
@@ -37,7 +37,7 @@ no-name-requires-2 c κs = search needs
 returns-2 : tie.Need-returns-2
 returns-2 c =
     let p = c .before .before .before .before .before .name-of-curve in
-    let names = c .before .before .before .before .before .before .before .before .args .names .now in
+    let names = c .before .before .before .before .before .before .before .args .names .now in
     read-wrong names (p .result) (long-wrong names (p .result) (c .before .if2 .taken)) (c .no-name2 .ensures .0) (c .no-name2 .ensures .1) ∙ ap (nameRead names) (p .ensures)
 
 name-run-requires : tie.Need-name-run-requires
@@ -46,7 +46,7 @@ name-run-requires c κs = search needs
 -- the bytes that are counted
 counted : (c : tie.After-name-run)
     → let p = c .before .before .before .before .before .name-of-curve .result in
-    c .name-run .result .size ≡ nameRun (p .size) (c .before .before .before .before .before .before .before .before .args .names .now) (p .place)
+    c .name-run .result .size ≡ nameRun (p .size) (c .before .before .before .before .before .before .before .args .names .now) (p .place)
 counted c = ap (λ (r : ReadName). r .size) (c .name-run .ensures)
 
 no-name-requires-3 : tie.Need-no-name-requires-3
@@ -55,14 +55,14 @@ no-name-requires-3 c κs = search needs
 returns-3 : tie.Need-returns-3
 returns-3 c =
     let p = c .before .before .before .before .before .before .before .name-of-curve in
-    let names = c .before .before .before .before .before .before .before .before .before .before .args .names .now in
+    let names = c .before .before .before .before .before .before .before .before .before .args .names .now in
     read-wrong names (p .result) (stopped-wrong names (p .result) (omega (arith, counted (c .before .before), c .before .if3 .taken))) (c .no-name3 .ensures .0) (c .no-name3 .ensures .1)
     ∙ ap (nameRead names) (p .ensures)
 
 returns-4 : tie.Need-returns-4
 returns-4 c =
     let p = c .before .before .before .before .before .before .name-of-curve in
-    let names = c .before .before .before .before .before .before .before .before .before .args .names .now in
+    let names = c .before .before .before .before .before .before .before .before .args .names .now in
     read-run names (p .result) (c .before .before .before .if1 .left) (c .before .before .if2 .left) (omega (arith, counted (c .before), c .if3 .left)) (c .before .name-run .ensures)
     ∙ ap (nameRead names) (p .ensures)
 

@@ -26,7 +26,7 @@ abbrev μ-loop : tie.MeasureT-loop
 
 loop-holds : tie.Need-loop-holds Inv-loop μ-loop
 loop-holds c =
-    let a = c .before .before .before .args in
+    let a = c .before .before .args in
     (search needs, (refl, (sym (wrong-all-left (a .n) (a .names .now) (a .list .now)), sym (keys-none (a .names .now) (a .list .now)))))
 
 name-in-requires : tie.Need-name-in-requires Inv-loop μ-loop
@@ -37,7 +37,7 @@ same-length c = c .before .before .before .loop .inv .1 .0
 
 returns : tie.Need-returns Inv-loop μ-loop
 returns c =
-    let a = c .before .before .before .before .before .before .before .args in
+    let a = c .before .before .before .before .before .before .args in
     let l = c .before .before .before .loop in
     let t = read-none (a .names .now) (namePlaceIn (a .list .now) (l .i)) (c .before .name-in .ensures) (c .if1 .taken) in
     let all : someWrong (a .n) (a .names .now) (a .list .now) ≡ true =
@@ -58,7 +58,7 @@ loop-less c = search needs
 
 loop-again : tie.Need-loop-again Inv-loop μ-loop
 loop-again c =
-    let a = c .before .before .before .before .before .before .before .args in
+    let a = c .before .before .before .before .before .before .args in
     let l = c .before .before .before .loop in
     let r = read-some (a .names .now) (namePlaceIn (a .list .now) (l .i)) (c .before .name-in .ensures) (c .if1 .left) in (
       search needs,
@@ -76,7 +76,7 @@ same-length-2 c = c .before .loop .inv .1 .0
 
 returns-2 : tie.Need-returns-2 Inv-loop μ-loop
 returns-2 c =
-    let a = c .before .before .before .before .before .args in
+    let a = c .before .before .before .before .args in
     let l = c .before .loop in
     let all : l .i ≡ a .n = omega (arith, c .loop-test .left) in (
       sym (l .inv .1 .1 .0 ∙ wrong-none-left (a .n) (a .names .now) (a .list .now) (l .i) (c .loop-test .left)),

@@ -2,10 +2,9 @@
 -- Assumes nothing.
 use Prim.Native.Nat.{ℕ, _+_, _-_, _*_, _≤_}
 use mathlib.Core.Path.{ap}
-use native.Mathlib.Omega.{arith}
 use borrow.Author.Needs.{needs}
 use Rattle.card_list.specs.declared.NamePlace.{NamePlace}
-use Rattle.book.proofs.WriterLines.{bodyIn, body-long, body-size-long, body-size-whole, SizesAfter, sizes-first, sizes-last, sizes-long, sizes-turn}
+use Rattle.book.proofs.WriterLines.{bodyIn, body-long, body-size-unfit, body-size-whole, SizesAfter, sizes-first, sizes-last, sizes-unfit, sizes-turn}
 use Rattle.book.proofs.measure.book_size.Statement.{statement}
 use Rattle.book.proofs.measure.book_size.Tie as tie
 
@@ -27,7 +26,7 @@ add-size c = search needs
 
 loop-holds : tie.Need-loop-holds Inv-loop μ-loop
 loop-holds c =
-    let s = c .before .before in
+    let s = c .before in
     (search needs, (search needs, sizes-first (s .args .n) (s .args .list .now) _ (s .pre .0) (ap (λ (k : ℕ). k + 1) (c .digit-count .ensures .0))))
 
 cast-name-of-curve : tie.Need-cast-name-of-curve Inv-loop μ-loop
@@ -57,9 +56,6 @@ mul-at c = search needs
 add-at : tie.Need-add-at Inv-loop μ-loop
 add-at c = search needs
 
-cast-end : tie.Need-cast-end Inv-loop μ-loop
-cast-end c = search needs
-
 add-end : tie.Need-add-end Inv-loop μ-loop
 add-end c = search needs
 
@@ -77,18 +73,18 @@ part-body-size-end c = search needs
 
 body-size-requires : tie.Need-body-size-requires Inv-loop μ-loop
 body-size-requires c κs =
-    let s = c .before .before .before .before .before .before .before .before in
+    let s = c .before .before .before .before .before .before .before in
     body-long (s .args .list .now) (s .args .n) (c .before .before .before .before .before .loop .i) (s .pre .1) (c .before .before .before .before .loop-test .taken)
 
 returns : tie.Need-returns Inv-loop μ-loop
 returns c =
-    let s = c .before .before .before .before .before .before .before .before .before .before in
+    let s = c .before .before .before .before .before .before .before .before .before in
     let list = s .args .list .now in
     let n = s .args .n in
     let l = c .before .before .before .before .before .before .before .loop in
     let some = c .before .before .before .before .before .before .loop-test .taken in
-    let eight = body-long list n (l .i) (s .pre .1) some in
-    sizes-long n list (l .i) (l .size) (l .inv .1 .1) some (body-size-long (bodyIn list (l .i)) (c .before .body-size .ensures .0) (omega (arith, eight)) (c .if1 .taken))
+    let eleven = body-long list n (l .i) (s .pre .1) some in
+    sizes-unfit n list (l .i) (l .size) (l .inv .1 .1) some (body-size-unfit (bodyIn list (l .i)) (c .before .body-size .ensures .0) eleven (c .if1 .taken))
 
 add-size-2 : tie.Need-add-size-2 Inv-loop μ-loop
 add-size-2 c = search needs
@@ -110,7 +106,7 @@ loop-less c = search needs
 
 loop-again : tie.Need-loop-again Inv-loop μ-loop
 loop-again c =
-    let s = c .before .before .before .before .before .before .before .before .before .before in
+    let s = c .before .before .before .before .before .before .before .before .before in
     let list = s .args .list .now in
     let n = s .args .n in
     let l = c .before .before .before .before .before .before .before .loop in
@@ -127,7 +123,7 @@ loop-again c =
 
 returns-2 : tie.Need-returns-2 Inv-loop μ-loop
 returns-2 c =
-    let a = c .before .before .before .before .args in
+    let a = c .before .before .before .args in
     let l = c .before .loop in
     sizes-last (a .n) (a .list .now) (l .i) (l .size) (l .inv .1 .1) (c .loop-test .left)
 
@@ -150,7 +146,6 @@ book-size-spec =
     digit-count-requires-2
     mul-at
     add-at
-    cast-end
     add-end
     mul-body-size
     sub-body-size

@@ -2,18 +2,20 @@
 -- Assumes nothing.
 use native.Mathlib.Omega.{arith}
 use native.Mathlib.Nat.{sub-zero}
-use Prim.Native.Nat.{ℕ, _+_, _-_, _*_, _≤_}
+use Prim.Native.Nat.{ℕ, _+_, _-_, _*_, _≤_, _<_}
 use mathlib.Core.Path.{_≡_, refl, sym, ap, _∙_, subst}
 use mathlib.Core.List.{List}
 use lib.ListN.{length, getD, drop, length-map}
 use lib.Seq.{sets}
 use borrow.Author.Needs.{needs}
+use Rattle.decimal.proofs.Choices.{each-at}
 use Rattle.card_list.specs.List.{curveWidth}
 use Rattle.book.specs.Name.{nameAt}
-use Rattle.book.specs.Body.{cardNumbers}
+use Rattle.book.specs.Body.{frontNumbers}
 use Rattle.book.specs.Book.{refusedOf, bodiesFrom}
 use Rattle.book.specs.Reading.{entriesBy}
 use Rattle.book.specs.declared.BookReply.{BookReply}
+use Rattle.book.proofs.Names.{name-in}
 use Rattle.book.proofs.LineLaws.{Faults26, body-26, body-next}
 use Rattle.book.proofs.BodyText.{body-place}
 use Rattle.book.proofs.Replies.{bodies-turn, bodies-accept, bodies-tail}
@@ -35,7 +37,7 @@ abbrev μ-loop : tie.MeasureT-loop
 
 loop-holds : tie.Need-loop-holds Inv-loop μ-loop
 loop-holds c =
-    let a = c .before .before .before .before .args in
+    let a = c .before .before .before .args in
     (search needs, (search needs, (refl, (ap (λ (m : ℕ). bodiesFrom m (a .text .now) (a .n) 0 (a .from)) (sym (sub-zero (a .n))), refl))))
 
 cast-k : tie.Need-cast-k Inv-loop μ-loop
@@ -52,7 +54,7 @@ mul-size c = search needs
 
 shared-slice-read-size : tie.Need-shared-slice-read-size Inv-loop μ-loop
 shared-slice-read-size c =
-    let start = c .before .before .before .before .before .before .before .before in
+    let start = c .before .before .before .before .before .before .before in
     omega (arith, ap length (start .pre .1 .0 .1), length-map (start .args .places .now) (nameAt (start .args .text .now)))
 
 mul-curve : tie.Need-mul-curve Inv-loop μ-loop
@@ -60,10 +62,12 @@ mul-curve c = search needs
 
 curve-requires : tie.Need-curve-requires Inv-loop μ-loop
 curve-requires c κs =
-    let start = c .before .before .before .before .before .before .before .before .before in
+    let start = c .before .before .before .before .before .before .before .before in
     let i = c .before .before .before .before .loop .i in
     let sized = ap (λ (l : List ℕ). getD l i 0) (start .pre .1 .0 .1) ∙ size-there (start .args .text .now) (start .args .places .now) i (omega arith) in
-    (sized, (search needs, omega arith))
+    let here = start .pre .1 .1 .0 in
+    let named = each-at (λ (place : ℕ). 0 < nameAt (start .args .text .now) place) (start .args .places .now) i 0 (here .1) (omega arith) in
+    ((omega (arith, here .0, name-in (start .args .text .now) (getD (start .args .places .now) i 0) named), sized), (search needs, omega arith))
 
 enum-known-line : tie.Need-enum-known-line Inv-loop μ-loop
 enum-known-line c = search needs
@@ -85,14 +89,14 @@ same-length c = search needs
 
 returns : tie.Need-returns Inv-loop μ-loop
 returns c =
-    let a = c .before .before .before .before .before .before .before .before .before .before .before .before .before .before .before .before .args in
-    let l = c .before .before .before .before .before .before .before .before .before .before .before .loop in
-    let some = c .before .before .before .before .before .before .before .before .before .before .loop-test .taken in
+    let a = c .before .before .before .before .before .before .before .before .before .before .before .before .before .before .args in
+    let l = c .before .before .before .before .before .before .before .before .before .before .loop in
+    let some = c .before .before .before .before .before .before .before .before .before .loop-test .taken in
     let number = c .before .before .line2 .given .0 .0 in
-    let e = sym (c .before .before .before .before .before .before .curve .ensures .0) ∙ c .before .before .line2 .given .1 in
+    let e = sym (c .before .before .before .before .before .curve .ensures .0) ∙ c .before .before .line2 .given .1 in
     let told : c .refused .result ≡ refusedOf number (a .n + l .i + 2) = c .refused .ensures in
     let same : c .refused .result .number ≡ number = ap (λ (r : BookReply). r .number) told in
-    let fault : number ≡ 26 = subst Faults26 e (body-26 cardNumbers (a .text .now) (l .at)) in
+    let fault : number ≡ 26 = subst Faults26 e (body-26 frontNumbers (a .text .now) (l .at)) in
     (told ∙ sym (l .inv .1 .1 .1 .0 ∙ bodies-turn (a .text .now) (a .n) (l .i) (l .at) some e), λ z. absurd (omega arith))
 
 add-i : tie.Need-add-i Inv-loop μ-loop
@@ -103,10 +107,10 @@ loop-less c = search needs
 
 loop-again : tie.Need-loop-again Inv-loop μ-loop
 loop-again c =
-    let a = c .before .before .before .before .before .before .before .before .before .before .before .before .before .before .before .args in
-    let l = c .before .before .before .before .before .before .before .before .before .before .loop in
-    let some = c .before .before .before .before .before .before .before .before .before .loop-test .taken in
-    let v = c .before .before .before .before .before .curve in
+    let a = c .before .before .before .before .before .before .before .before .before .before .before .before .before .args in
+    let l = c .before .before .before .before .before .before .before .before .before .loop in
+    let some = c .before .before .before .before .before .before .before .before .loop-test .taken in
+    let v = c .before .before .before .before .curve in
     let e = sym (v .ensures .0) ∙ c .before .line .given .1 in
     let next = c .before .line .given .0 .0 in
     let stored = v .ensures .1 next (c .before .line .given .1) in
@@ -120,7 +124,7 @@ loop-again c =
             l .inv .1 .1 .1 .0 ∙ bodies-turn (a .text .now) (a .n) (l .i) (l .at) some e,
             l .inv .1 .1 .1 .1
                 ∙ entries-turn (a .text .now) (a .places .now) (l .i) (l .at) (l .draft) (curveWidth * l .i) (omega arith) stored
-                (body-place cardNumbers (a .text .now) (l .at) e)
+                (body-place frontNumbers (a .text .now) (l .at) e)
                 ∙ ap (λ (m : ℕ). sets (v .last .1 .1 .1 .1 .0) m (entriesBy (a .text .now) (drop (l .i + 1) (a .places .now)) next)) more,
           ),
         ),
@@ -132,7 +136,7 @@ same-length-2 c = search needs
 
 returns-2 : tie.Need-returns-2 Inv-loop μ-loop
 returns-2 c =
-    let a = c .before .before .before .before .before .before .before .args in
+    let a = c .before .before .before .before .before .before .args in
     let l = c .before .before .loop in
     let none = c .before .loop-test .left in (
       sym (l .inv .1 .1 .1 .0 ∙ bodies-accept (a .text .now) (a .n) (l .i) (l .at) none (c .if1 .taken)),
@@ -153,7 +157,7 @@ same-length-3 c = search needs
 
 returns-3 : tie.Need-returns-3 Inv-loop μ-loop
 returns-3 c =
-    let a = c .before .before .before .before .before .before .before .before .args in
+    let a = c .before .before .before .before .before .before .before .args in
     let l = c .before .before .before .loop in
     let none = c .before .before .loop-test .left in
     let told : c .refused2 .result ≡ refusedOf 27 (a .n + a .n + 2) = c .refused2 .ensures in

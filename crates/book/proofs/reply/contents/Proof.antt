@@ -8,6 +8,8 @@ use mathlib.Core.List.{List, []}
 use lib.ListN.{length, take}
 use lib.Seq.{sets, length-take-le}
 use borrow.Author.Needs.{needs}
+use Rattle.decimal.specs.Decimal.{Each}
+use Rattle.book.specs.Name.{nameAt}
 use Rattle.book.specs.Contents.{headingAt, contentsLine}
 use Rattle.book.specs.Book.{mostCurves, refusedOf, contentsFrom, afterHeadings, entriesFrom}
 use Rattle.book.specs.Reading.{keyAt, sizesAt, lineBy, headingsFrom, entriesBy}
@@ -46,7 +48,7 @@ abbrev μ-loop : tie.MeasureT-loop
 
 loop-holds : tie.Need-loop-holds Inv-loop μ-loop
 loop-holds c =
-    let a = c .before .before .args in (
+    let a = c .before .args in (
       search needs,
       (
         search needs,
@@ -101,7 +103,7 @@ array-write-places c = search needs
 
 cast-sizes : tie.Need-cast-sizes Inv-loop μ-loop
 cast-sizes c =
-    let a = c .before .before .before .before .before .before .before .before .before .before .args in
+    let a = c .before .before .before .before .before .before .before .before .before .args in
     let l = c .before .before .before .before .before .before .before .loop in
     omega (arith, ap (λ (x : ReadName). x .size) (c .before .before .before .before .before .read-name .ensures), name-fits (a .text .now) (l .at) (l .inv .1 .0))
 
@@ -122,7 +124,7 @@ refused-requires c κs = search needs
 
 returns : tie.Need-returns Inv-loop μ-loop
 returns c =
-    let a = c .before .before .before .before .before .before .before .before .before .before .before .args in
+    let a = c .before .before .before .before .before .before .before .before .before .before .args in
     let l = c .before .before .before .before .before .before .before .before .loop in
     let some = c .before .before .before .before .before .before .before .loop-test .taken in
     let k = c .before .before .before .before .before .before .read-name in
@@ -132,7 +134,7 @@ returns c =
     let told : c .refused .result ≡ refusedOf number (l .i + 2) = c .refused .ensures in
     let same : c .refused .result .number ≡ number = ap (λ (b : BookReply). b .number) told in
     let fault : 0 < number = contents-fault (a .text .now) (take (l .i) (l .places)) (l .at) (a .n + l .i + 2) e in (
-      told ∙ sym (l .inv .1 .1 .1 .1 .1 .1 ∙ contents-turn (a .text .now) (a .n) (l .i) (l .places) (l .at) some (omega (arith, c .before .before .before .before .before .before .before .before .before .before .before .pre .0 .0)) e),
+      told ∙ sym (l .inv .1 .1 .1 .1 .1 .1 ∙ contents-turn (a .text .now) (a .n) (l .i) (l .places) (l .at) some (omega (arith, c .before .before .before .before .before .before .before .before .before .before .pre .0 .0)) e),
       λ z. absurd (omega arith),
     )
 
@@ -144,7 +146,7 @@ loop-less c = search needs
 
 loop-again : tie.Need-loop-again Inv-loop μ-loop
 loop-again c =
-    let a = c .before .before .before .before .before .before .before .before .before .before .args in
+    let a = c .before .before .before .before .before .before .before .before .before .args in
     let l = c .before .before .before .before .before .before .before .loop in
     let some = c .before .before .before .before .before .before .loop-test .taken in
     let k = c .before .before .before .before .before .read-name in
@@ -172,47 +174,57 @@ loop-again c =
     )
 
 -- after the last contents line the places of all are kept, and the bodies follow
-all : (c : tie.After-loop Inv-loop μ-loop) → c .before .loop .i ≡ c .before .before .before .before .args .n
+all : (c : tie.After-loop Inv-loop μ-loop) → c .before .loop .i ≡ c .before .before .before .args .n
 all c = omega (arith, c .loop-test .left)
 
 all-placed : (c : tie.After-loop Inv-loop μ-loop)
-    → let a = c .before .before .before .before .args in take (a .n) (c .before .loop .places) ≡ headingsFrom (a .n) (a .text .now) (a .first)
+    → let a = c .before .before .before .args in take (a .n) (c .before .loop .places) ≡ headingsFrom (a .n) (a .text .now) (a .first)
 all-placed c =
-    let a = c .before .before .before .before .args in
+    let a = c .before .before .before .args in
     subst (λ (k : ℕ). take k (c .before .loop .places) ≡ headingsFrom k (a .text .now) (a .first)) (all c) (c .before .loop .inv .1 .1 .1 .1 .1 .0 .placed)
 
 all-sized : (c : tie.After-loop Inv-loop μ-loop)
-    → let a = c .before .before .before .before .args in take (a .n) (c .before .loop .sizes) ≡ sizesAt (a .text .now) (take (a .n) (c .before .loop .places))
+    → let a = c .before .before .before .args in take (a .n) (c .before .loop .sizes) ≡ sizesAt (a .text .now) (take (a .n) (c .before .loop .places))
 all-sized c =
-    let a = c .before .before .before .before .args in
+    let a = c .before .before .before .args in
     subst (λ (k : ℕ). take k (c .before .loop .sizes) ≡ sizesAt (a .text .now) (take k (c .before .loop .places))) (all c)
     (c .before .loop .inv .1 .1 .1 .1 .1 .0 .sized)
 
+all-named : (c : tie.After-loop Inv-loop μ-loop)
+    → let a = c .before .before .before .args in Each (λ (place : ℕ). 0 < nameAt (a .text .now) place) (take (a .n) (c .before .loop .places))
+all-named c =
+    let a = c .before .before .before .args in
+    subst (λ (k : ℕ). Each (λ (place : ℕ). 0 < nameAt (a .text .now) place) (take k (c .before .loop .places))) (all c)
+    (c .before .loop .inv .1 .1 .1 .1 .1 .0 .named)
+
 all-past : (c : tie.After-loop Inv-loop μ-loop)
-    → let a = c .before .before .before .before .args in c .before .loop .at ≡ afterHeadings (a .n) (a .text .now) (a .first)
+    → let a = c .before .before .before .args in c .before .loop .at ≡ afterHeadings (a .n) (a .text .now) (a .first)
 all-past c =
-    let a = c .before .before .before .before .args in
+    let a = c .before .before .before .args in
     subst (λ (k : ℕ). c .before .loop .at ≡ afterHeadings k (a .text .now) (a .first)) (all c) (c .before .loop .inv .1 .1 .1 .1 .1 .0 .here)
 
 array-share-prefix-places : tie.Need-array-share-prefix-places Inv-loop μ-loop
 array-share-prefix-places c = search needs
 
 slice-aggregate-bodies : tie.Need-slice-aggregate-bodies Inv-loop μ-loop
-slice-aggregate-bodies c = let l = c .before .before .loop in sym (length-take-le (c .before .before .before .before .before .args .n) (l .places) (omega arith))
+slice-aggregate-bodies c = let l = c .before .before .loop in sym (length-take-le (c .before .before .before .before .args .n) (l .places) (omega arith))
 
 array-share-prefix-sizes : tie.Need-array-share-prefix-sizes Inv-loop μ-loop
 array-share-prefix-sizes c = search needs
 
 slice-aggregate-bodies-2 : tie.Need-slice-aggregate-bodies-2 Inv-loop μ-loop
 slice-aggregate-bodies-2 c =
-    let l = c .before .before .before .loop in sym (length-take-le (c .before .before .before .before .before .before .args .n) (l .sizes) (omega arith))
+    let l = c .before .before .before .loop in sym (length-take-le (c .before .before .before .before .before .args .n) (l .sizes) (omega arith))
 
 bodies-requires : tie.Need-bodies-requires Inv-loop μ-loop
 bodies-requires c κs =
-    let a = c .before .before .before .before .before .before .before .args in
+    let a = c .before .before .before .before .before .before .args in
     let l = c .before .before .before .before .loop in (
       search needs,
-      ((length-take-le (a .n) (l .places) (omega arith), all-sized (c .before .before .before)), search needs),
+      (
+        (length-take-le (a .n) (l .places) (omega arith), all-sized (c .before .before .before)),
+        ((search needs, all-named (c .before .before .before)), search needs),
+      ),
     )
 
 same-length : tie.Need-same-length Inv-loop μ-loop
@@ -220,19 +232,19 @@ same-length c = search needs
 
 returns-2 : tie.Need-returns-2 Inv-loop μ-loop
 returns-2 c =
-    let a = c .before .before .before .before .before .before .before .before .before .before .args in
-    let l = c .before .before .before .before .before .before .before .loop in
-    let none = c .before .before .before .before .before .before .loop-test .left in
-    let b = c .before .before .bodies in
+    let a = c .before .before .before .before .before .before .before .before .args in
+    let l = c .before .before .before .before .before .before .loop in
+    let none = c .before .before .before .before .before .loop-test .left in
+    let b = c .before .bodies in
     let s = a .text .now in
     let d = a .draft .now in (
       b .ensures .0 ∙ sym (l .inv .1 .1 .1 .1 .1 .1 ∙ contents-end s (a .n) (l .i) (l .places) (l .at) none),
       λ z. (
         b .ensures .1 z .0,
         b .ensures .1 z .1
-            ∙ ap (λ (r : List ℕ). sets d 0 (entriesBy s r (l .at))) (all-placed (c .before .before .before .before .before .before))
+            ∙ ap (λ (r : List ℕ). sets d 0 (entriesBy s r (l .at))) (all-placed (c .before .before .before .before .before))
             ∙ ap (sets d 0) (entries-by (a .n) s (a .first) (l .at))
-            ∙ ap (λ (p : ℕ). sets d 0 (entriesFrom (a .n) s (a .first) p)) (all-past (c .before .before .before .before .before .before)),
+            ∙ ap (λ (p : ℕ). sets d 0 (entriesFrom (a .n) s (a .first) p)) (all-past (c .before .before .before .before .before)),
       ),
     )
 

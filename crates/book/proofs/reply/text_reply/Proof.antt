@@ -15,7 +15,7 @@ use Rattle.book.proofs.reply.text_reply.Statement.{statement}
 use Rattle.book.proofs.reply.text_reply.Tie as tie
 
 -- past the first two tests the text is not too long
-short : (c : tie.Else2) → length (c .before .before .before .before .args .text .now) ≤ mostBytes
+short : (c : tie.Else2) → length (c .before .before .before .args .text .now) ≤ mostBytes
 short c = c .if2 .left
 
 -- a refused reply has another number than 0
@@ -27,14 +27,14 @@ refused-requires c κs = search needs
 
 returns : tie.Need-returns
 returns c =
-    (c .refused .ensures ∙ sym (text-empty (c .before .before .before .before .args .text .now) (c .before .if1 .taken)), λ z. absurd (not-0 21 0 (c .refused .ensures) (λ h. omega arith) z))
+    (c .refused .ensures ∙ sym (text-empty (c .before .before .before .args .text .now) (c .before .if1 .taken)), λ z. absurd (not-0 21 0 (c .refused .ensures) (λ h. omega arith) z))
 
 refused-requires-2 : tie.Need-refused-requires-2
 refused-requires-2 c κs = search needs
 
 returns-2 : tie.Need-returns-2
 returns-2 c = (
-  c .refused2 .ensures ∙ sym (text-long (c .before .before .before .before .before .args .text .now) (c .before .before .if1 .left) (c .before .if2 .taken)),
+  c .refused2 .ensures ∙ sym (text-long (c .before .before .before .before .args .text .now) (c .before .before .if1 .left) (c .before .if2 .taken)),
   λ z. absurd (not-0 21 0 (c .refused2 .ensures) (λ h. omega arith) z),
 )
 
@@ -55,7 +55,7 @@ refused-requires-4 c κs = search needs
 
 returns-3 : tie.Need-returns-3
 returns-3 c =
-    let s = c .before .before .before .before .before .before .before .before .before .before .args .text .now in
+    let s = c .before .before .before .before .before .before .before .before .before .args .text .now in
     let some = c .before .before .before .before .before .before .before .if1 .left in
     let e = sym (c .before .before .before .before .before .read-number .ensures) ∙ c .before .before .before .field .given .1 in
     let few = short (c .before .before .before .before .before .before) in (
@@ -68,7 +68,7 @@ refused-requires-5 c κs = search needs
 
 returns-4 : tie.Need-returns-4
 returns-4 c =
-    let s = c .before .before .before .before .before .before .before .before .before .before .before .args .text .now in
+    let s = c .before .before .before .before .before .before .before .before .before .before .args .text .now in
     let some = c .before .before .before .before .before .before .before .before .if1 .left in
     let e = sym (c .before .before .before .before .before .before .read-number .ensures) ∙ c .before .before .before .before .field .given .1 in
     let few = short (c .before .before .before .before .before .before .before) in (
@@ -78,13 +78,13 @@ returns-4 c =
 
 contents-requires : tie.Need-contents-requires
 contents-requires c κs =
-    let s = c .before .before .before .before .before .before .before .before .before .before .before .args .text .now in
+    let s = c .before .before .before .before .before .before .before .before .before .before .args .text .now in
     let e = sym (c .before .before .before .before .before .before .read-number .ensures) ∙ c .before .before .before .before .field .given .1 in
     ((search needs, (search needs, field-next s 10 (search needs) 0 e)), search needs)
 
 returns-5 : tie.Need-returns-5
 returns-5 c =
-    let s = c .before .before .before .before .before .before .before .before .args .text .now in
+    let s = c .before .before .before .before .before .before .before .args .text .now in
     let some = c .before .before .before .before .before .if1 .left in
     let e = sym (c .before .before .before .read-number .ensures) ∙ c .before .enum-told .given .1 in
     let few = short (c .before .before .before .before) in (
@@ -98,14 +98,14 @@ same-length c = search needs
 returns-6 : tie.Need-returns-6
 unfolding entriesOf
 returns-6 c =
-    let s = c .before .before .before .before .before .before .before .before .before .before .before .before .before .before .args .text .now in
-    let some = c .before .before .before .before .before .before .before .before .before .before .before .if1 .left in
-    let e = sym (c .before .before .before .before .before .before .before .before .before .read-number .ensures) ∙ c .before .before .before .before .before .before .before .field .given .1 in
-    let few = short (c .before .before .before .before .before .before .before .before .before .before) in
-    let r = c .before .before .contents in
-    let n = c .before .before .before .before .before .before .before .field .given .0 .0 in
-    let d = c .before .before .before .before .before .before .before .before .before .before .before .before .before .before .args .draft .now in (
-      r .ensures .0 ∙ sym (text-good s some few e (c .before .before .before .before .before .if3 .left) (c .before .before .before .before .if4 .left)),
+    let s = c .before .before .before .before .before .before .before .before .before .before .before .before .args .text .now in
+    let some = c .before .before .before .before .before .before .before .before .before .before .if1 .left in
+    let e = sym (c .before .before .before .before .before .before .before .before .read-number .ensures) ∙ c .before .before .before .before .before .before .field .given .1 in
+    let few = short (c .before .before .before .before .before .before .before .before .before) in
+    let r = c .before .contents in
+    let n = c .before .before .before .before .before .before .field .given .0 .0 in
+    let d = c .before .before .before .before .before .before .before .before .before .before .before .before .args .draft .now in (
+      r .ensures .0 ∙ sym (text-good s some few e (c .before .before .before .before .if3 .left) (c .before .before .before .if4 .left)),
       λ z. r .ensures .1 z .1
           ∙ ap (λ (p : ℕ). sets d 0 (entriesFrom n s p (afterHeadings n s p))) (sym (ap (fieldNext 0) e))
           ∙ ap (λ (m : ℕ). sets d 0 (entriesOf s m)) (sym (r .ensures .1 z .0)),

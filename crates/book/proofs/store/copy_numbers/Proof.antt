@@ -3,9 +3,13 @@
 use native.Mathlib.Omega.{arith}
 use Prim.Native.Nat.{ℕ, _-_, _≤_}
 use mathlib.Core.Path.{_≡_, refl, ap, _∙_}
-use mathlib.Core.List.{List, _++_}
+use mathlib.Core.List.{_++_}
+use lib.IntN.{pos}
 use lib.ListN.{length, getD, take, drop, set, length-set}
 use borrow.Author.Needs.{needs}
+use mir.Syntax.{w32}
+use mir.Val.{SFits, toZ, ofZ}
+use mir.Facts.{toZ-ofZ}
 use Rattle.book.proofs.Stores.{copy-turn}
 use Rattle.book.proofs.store.copy_numbers.Statement.{statement}
 use Rattle.book.proofs.store.copy_numbers.Tie as tie
@@ -23,14 +27,14 @@ loop-holds c = (search needs, (refl, refl))
 mul-list : tie.Need-mul-list Inv-loop μ-loop
 mul-list c = search needs
 
-shared-slice-read-list : tie.Need-shared-slice-read-list Inv-loop μ-loop
-shared-slice-read-list c = search needs
+shared-slice-copy-out-list : tie.Need-shared-slice-copy-out-list Inv-loop μ-loop
+shared-slice-copy-out-list c = search needs
 
-mul-list-2 : tie.Need-mul-list-2 Inv-loop μ-loop
-mul-list-2 c = search needs
+mul-t9 : tie.Need-mul-t9 Inv-loop μ-loop
+mul-t9 c = search needs
 
-slice-write-list : tie.Need-slice-write-list Inv-loop μ-loop
-slice-write-list c = search needs
+slice-set-from-list : tie.Need-slice-set-from-list Inv-loop μ-loop
+slice-set-from-list c = search needs
 
 add-i : tie.Need-add-i Inv-loop μ-loop
 add-i c = search needs
@@ -42,11 +46,13 @@ loop-again : tie.Need-loop-again Inv-loop μ-loop
 loop-again c =
     let a = c .before .before .before .args in
     let l = c .before .before .loop in
-    let d = a .draft .now in (
+    let d = a .draft .now in
+    let fits : SFits w32 (getD d (l .i) (pos 0)) = search needs in
+    let size = length-set (l .list) (l .i) (toZ w32 (ofZ w32 (getD d (l .i) (pos 0)))) in (
       search needs,
       (
-        length-set (l .list) (l .i) (getD d (l .i) 0) ∙ l .inv .1 .0,
-        ap (λ (x : List ℕ). set x (l .i) (getD d (l .i) 0)) (l .inv .1 .1) ∙ copy-turn d (a .list .now) (l .i) (omega arith) (omega arith),
+        size ∙ l .inv .1 .0,
+        (λ i. set (l .inv .1 .1 i) (l .i) (toZ-ofZ fits i)) ∙ copy-turn d (a .list .now) (l .i) (omega arith) (omega arith),
       ),
     )
 
@@ -68,9 +74,9 @@ copy-numbers-spec =
     μ-loop
     loop-holds
     mul-list
-    shared-slice-read-list
-    mul-list-2
-    slice-write-list
+    shared-slice-copy-out-list
+    mul-t9
+    slice-set-from-list
     add-i
     loop-less
     loop-again

@@ -6,13 +6,14 @@ use mathlib.Core.Bool.{false}
 use mathlib.Core.List.{List}
 use native.Mathlib.Omega.{arith}
 use borrow.Author.Needs.{needs}
+use lib.IntN.{ℤ}
 use lib.ListN.{length}
 use lib.Seq.{sets}
 use Rattle.decimal.proofs.Choices.{or-none}
 use Rattle.decimal.proofs.Stores.{stores-next}
 use Rattle.book.specs.Printed.{bodyText, bodyTexts}
-use Rattle.book.specs.Writing.{hasLong, someLong}
-use Rattle.book.proofs.WriterLines.{bodyIn, body-long, bodiesAfter, bodies-all, bodies-none, texts-none, texts-turn, texts-size-turn, longs-turn}
+use Rattle.book.specs.Writing.{isUnfit, someUnfit}
+use Rattle.book.proofs.WriterLines.{bodyIn, body-long, bodiesAfter, bodies-all, bodies-none, texts-none, texts-turn, texts-size-turn, unfits-turn}
 use Rattle.book.proofs.write.write_bodies.Statement.{statement}
 use Rattle.book.proofs.write.write_bodies.Tie as tie
 
@@ -20,7 +21,7 @@ abbrev Inv-loop : tie.InvT-loop
 Inv-loop list n buffer₀ at out₀ i₀ buffer out i =
     (i ≤ n)
     × ((length buffer ≡ length buffer₀)
-    × ((someLong (bodiesAfter n list i) ≡ false)
+    × ((someUnfit (bodiesAfter n list i) ≡ false)
     × ((out + length (bodyTexts (bodiesAfter n list i)) ≡ at + length (bodyTexts (bodiesAfter n list 0)))
     × (sets buffer₀ at (bodyTexts (bodiesAfter n list 0)) ≡ sets buffer out (bodyTexts (bodiesAfter n list i))))))
 
@@ -29,17 +30,14 @@ abbrev μ-loop : tie.MeasureT-loop
 
 loop-holds : tie.Need-loop-holds Inv-loop μ-loop
 loop-holds c =
-    let s = c .before .before in
-    (search needs, (refl, (ap someLong (bodies-all (s .args .n) (s .args .list .now)) ∙ s .pre .0 .1, (refl, refl))))
+    let s = c .before in
+    (search needs, (refl, (ap someUnfit (bodies-all (s .args .n) (s .args .list .now)) ∙ s .pre .0 .1, (refl, refl))))
 
 mul-start : tie.Need-mul-start Inv-loop μ-loop
 mul-start c = search needs
 
 add-start : tie.Need-add-start Inv-loop μ-loop
 add-start c = search needs
-
-cast-end : tie.Need-cast-end Inv-loop μ-loop
-cast-end c = search needs
 
 add-end : tie.Need-add-end Inv-loop μ-loop
 add-end c = search needs
@@ -58,9 +56,9 @@ part-write-body-end c = search needs
 
 module _ (c : tie.After-write-body-arg2 Inv-loop μ-loop) where
   abbrev start : tie.Start Inv-loop μ-loop
-  start = c .before .before .before .before .before .before
+  start = c .before .before .before .before .before
 
-  abbrev list : List ℕ
+  abbrev list : List ℤ
   list = start .args .list .now
 
   abbrev n : ℕ
@@ -72,9 +70,9 @@ module _ (c : tie.After-write-body-arg2 Inv-loop μ-loop) where
   abbrev some : i < n
   some = c .before .before .loop-test .taken
 
-  -- no number of this body is too long, nor of those behind
-  short : (hasLong (bodyIn list i) ≡ false) × (someLong (bodiesAfter n list (i + 1)) ≡ false)
-  short = or-none (hasLong (bodyIn list i)) (someLong (bodiesAfter n list (i + 1))) (sym (longs-turn n list i some) ∙ c .before .before .before .loop .inv .1 .1 .0)
+  -- a body has these numbers, and those behind have theirs
+  fit : (isUnfit (bodyIn list i) ≡ false) × (someUnfit (bodiesAfter n list (i + 1)) ≡ false)
+  fit = or-none (isUnfit (bodyIn list i)) (someUnfit (bodiesAfter n list (i + 1))) (sym (unfits-turn n list i some) ∙ c .before .before .before .loop .inv .1 .1 .0)
 
   -- the length of what is left: a body, and the rest
   turn : length (bodyTexts (bodiesAfter n list i)) ≡ length (bodyText (bodyIn list i)) + length (bodyTexts (bodiesAfter n list (i + 1)))
@@ -83,8 +81,8 @@ module _ (c : tie.After-write-body-arg2 Inv-loop μ-loop) where
 write-body-requires : tie.Need-write-body-requires Inv-loop μ-loop
 write-body-requires c κs =
     let all = bodies-all (n c) (list c) in (
-      (body-long (list c) (n c) (i c) (start c .pre .0 .0) (some c), short c .0),
-      omega (arith, turn c, ap (λ (b : List (List ℕ)). length (bodyTexts b)) all, start c .pre .1),
+      (body-long (list c) (n c) (i c) (start c .pre .0 .0) (some c), fit c .0),
+      omega (arith, turn c, ap (λ (b : List (List ℤ)). length (bodyTexts b)) all, start c .pre .1),
     )
 
 add-i : tie.Need-add-i Inv-loop μ-loop
@@ -102,7 +100,7 @@ loop-again c =
       (
         p .kept .1 .0 ∙ l .inv .1 .0,
         (
-          short w .1,
+          fit w .1,
           (
             omega (arith, turn w, p .ensures .0),
             l .inv .1 .1 .1 .1
@@ -117,10 +115,10 @@ same-length c = c .before .loop .inv .1 .0
 
 returns : tie.Need-returns Inv-loop μ-loop
 returns c =
-    let a = c .before .before .before .before .args in
+    let a = c .before .before .before .args in
     let l = c .before .loop in
     let none = ap bodyTexts (bodies-none (a .n) (a .list .now) (l .i) (c .loop-test .left)) ∙ texts-none in
-    sym (ap (λ (b : List (List ℕ)). sets (a .buffer .now) (a .at) (bodyTexts b)) (sym (bodies-all (a .n) (a .list .now)))
+    sym (ap (λ (b : List (List ℤ)). sets (a .buffer .now) (a .at) (bodyTexts b)) (sym (bodies-all (a .n) (a .list .now)))
     ∙ l .inv .1 .1 .1 .1 ∙ ap (sets (l .buffer) (l .out)) none)
 
 pub write-bodies-spec : {M : Type 1} → statement M
@@ -132,7 +130,6 @@ write-bodies-spec =
     loop-holds
     mul-start
     add-start
-    cast-end
     add-end
     mul-write-body
     sub-write-body

@@ -5,6 +5,7 @@ use mathlib.Core.Path.{_≡_, refl, sym, ap, _∙_, subst}
 use mathlib.Core.List.{List, _++_}
 use native.Mathlib.Omega.{arith}
 use borrow.Author.Needs.{needs}
+use lib.IntN.{ℤ}
 use lib.ListN.{length, take, drop}
 use lib.Seq.{sets}
 use Rattle.card_list.specs.declared.NamePlace.{NamePlace}
@@ -61,9 +62,9 @@ part-write-heading-start c = search needs
 
 module _ (k : tie.After-struct-known2 Inv-loop μ-loop) where
   abbrev start : tie.Start Inv-loop μ-loop
-  start = k .before .before .before .before .before .before .before .before
+  start = k .before .before .before .before .before .before .before
 
-  abbrev list : List ℕ
+  abbrev list : List ℤ
   list = start .args .list .now
 
   abbrev names : List ℕ
@@ -137,7 +138,7 @@ same-length c = c .before .loop .inv .1 .0
 
 returns : tie.Need-returns Inv-loop μ-loop
 returns c =
-    let a = c .before .before .before .before .before .args in
+    let a = c .before .before .before .before .args in
     let l = c .before .loop in
     let all = contents-all (a .n) (a .names .now) (a .list .now) in
     let none = contents-none (a .n) (a .names .now) (a .list .now) (l .i) (c .loop-test .left) in (

@@ -5,6 +5,7 @@ use mathlib.Core.Path.{sym, ap, _∙_}
 use mathlib.Core.List.{List, _++_}
 use native.Mathlib.Omega.{arith}
 use borrow.Author.Needs.{needs}
+use lib.IntN.{ℤ}
 use lib.ListN.{length}
 use lib.Seq.{sets}
 use Rattle.decimal.proofs.Stores.{then-bytes}
@@ -16,7 +17,7 @@ use Rattle.book.proofs.write.write_lines.Statement.{statement}
 use Rattle.book.proofs.write.write_lines.Tie as tie
 
 module _ (s : tie.Start) where
-  abbrev list : List ℕ
+  abbrev list : List ℤ
   list = s .args .list .now
 
   abbrev names : List ℕ
@@ -39,17 +40,17 @@ cast-write-number : tie.Need-cast-write-number
 cast-write-number c = search needs
 
 write-number-requires : tie.Need-write-number-requires
-write-number-requires c κs = let s = c .before .before .before .before in (omega (arith, s .pre .0 .0), omega (arith, room s))
+write-number-requires c κs = let s = c .before .before .before in (omega (arith, s .pre .0 .0), omega (arith, room s))
 
 write-contents-requires : tie.Need-write-contents-requires
 write-contents-requires c κs =
-    let s = c .before .before .before .before .before .before .before .before in
+    let s = c .before .before .before .before .before .before .before in
     let w = c .before .before .before .write-number in
     ((s .pre .0 .0, s .pre .1 .0 .0), omega (arith, room s, w .ensures .0, w .kept .1 .1 .0))
 
 write-bodies-requires : tie.Need-write-bodies-requires
 write-bodies-requires c κs =
-    let s = c .before .before .before .before .before .before .before .before .before .before .before .before in
+    let s = c .before .before .before .before .before .before .before .before .before .before .before in
     let t = c .before .before .before .write-contents in
     let w = c .before .before .before .before .before .before .before .write-number in
     ((s .pre .0 .1, s .pre .1 .0 .1), omega (arith, room s, t .ensures .0, t .kept .1 .1 .1 .0, w .ensures .0, w .kept .1 .1 .0))
@@ -60,7 +61,7 @@ same-length c = search needs
 returns : tie.Need-returns
 returns c =
     let w = c .before .before .before .before .before .before .before .before .before .before .write-number in
-    let s = c .before .before .before .before .before .before .before .before .before .before .before .before .before .before .before in
+    let s = c .before .before .before .before .before .before .before .before .before .before .before .before .before .before in
     let t = c .before .before .before .before .before .before .write-contents in
     then-bytes (s .args .buffer .now) 0 (numberText (n s) 10) (w .ensures) (contents s ++ bodies s)
     (then-bytes (w .last .1 .1 .0) (w .result) (contents s) (t .ensures) (bodies s) (c .before .before .write-bodies .ensures))

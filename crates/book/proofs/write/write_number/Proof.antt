@@ -8,7 +8,7 @@ use lib.ListN.{length}
 use Rattle.decimal.specs.Decimal.{countText}
 use Rattle.decimal.proofs.Stores.{Stored}
 use Rattle.decimal.proofs.Puts.{stored-puts}
-use Rattle.book.proofs.WriterLines.{number-text}
+use Rattle.book.proofs.WriterBodies.{number-text}
 use Rattle.book.proofs.write.write_number.Statement.{statement}
 use Rattle.book.proofs.write.write_number.Tie as tie
 

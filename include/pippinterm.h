@@ -7,7 +7,7 @@
  * no other target: the SSE registers are used, and so are the 128 bytes below
  * the stack pointer (the red zone), which an interrupt handler on the same
  * stack must leave alone. No call reckons with floats. It needs memcpy and
- * memset, which every C compiler expects, less than 4 KB of stack besides what
+ * memset, which every C compiler expects, less than 5 KB of stack besides what
  * these two take, and no start-up. It keeps nothing between two calls, so that
  * calls from several threads meet only in what they are lent.
  *
@@ -17,7 +17,7 @@
  *   - a pointer leads to as many numbers, bytes or cards as are said to be there,
  *     and they lie as C aligns them. A table, a text, a list, names, a buffer, a day's
  *     cards or its reply list may be NULL where the length given with it is 0;
- *     card, count, line and looked are never NULL, since a card has its eight
+ *     card, count, line and looked are never NULL, since a card has its eleven
  *     numbers in every call, and count, line and looked are always written;
  *   - what is lent for writing in one call shares no memory with anything else
  *     that is lent in it, and nothing else writes to what is lent while the
@@ -33,7 +33,15 @@
 extern "C" {
 #endif
 
-/* The numbers of a card, in their order. */
+/* The numbers of a card, in their order. A card is relative, and its heights count
+   from the inner brow at station 0; or it is absolute, and its heights count from
+   the benchmark: the axis stands at the card's height at station 0, and at station
+   d, in mm, grade x d micrometres higher. The other lines are then as far above or
+   below the axis as a relative card has them.
+   Cards that were not read from a book may hold anything. One of the first eight
+   numbers that is below 0 counts as 4294967295, which is more than any of them may
+   be, so that the card is refused. With the mark 0 the height and the grade are not
+   looked at. Any other mark is absolute, though only 1 can be written into a book. */
 #define PIPPINTERM_CARD_PROFILE 0     /* 1 to 5: II, III, IV, V two lanes, V one lane */
 #define PIPPINTERM_CARD_TERRAIN 1     /* 1 level, 2 mountain */
 #define PIPPINTERM_CARD_RADIUS 2      /* in metres */
@@ -42,14 +50,23 @@ extern "C" {
 #define PIPPINTERM_CARD_WIDENING 5    /* full widening in mm */
 #define PIPPINTERM_CARD_STEP 6        /* between rows, in mm */
 #define PIPPINTERM_CARD_UNIT 7        /* in mm: 1 or 10 */
-#define PIPPINTERM_CARD_NUMBERS 8
+#define PIPPINTERM_CARD_MARK 8        /* relative or absolute */
+#define PIPPINTERM_CARD_HEIGHT 9      /* of the axis at station 0 above the benchmark, in mm; either sign */
+#define PIPPINTERM_CARD_GRADE 10      /* along the road in per mille: above 0 it climbs, below 0 it falls */
+#define PIPPINTERM_CARD_NUMBERS 11
+
+/* The mark of a card. */
+#define PIPPINTERM_MARK_RELATIVE 0    /* the height and the grade are 0 in a list that was read */
+#define PIPPINTERM_MARK_ABSOLUTE 1
 
 /* The numbers of a row, in their order: the station in mm, the others in
    counts of the card's unit, each rounded once from its exact fraction to the
    nearest, halfway to the lower, also below nought. Heights count from the
-   inner brow at station 0. The inner shoulder, from the inner edge to the inner
-   brow, is the greater of the least shoulder and the shoulder less the widening:
-   where the least is greater, the bank is widened. */
+   inner brow at station 0, or from the benchmark where the card is absolute: the
+   sum of the axis and of a line's distance from it is what is rounded. The inner
+   shoulder, from the inner edge to the inner brow, is the greater of the least
+   shoulder and the shoulder less the widening: where the least is greater, the
+   bank is widened. */
 #define PIPPINTERM_ROW_STATION 0
 #define PIPPINTERM_ROW_WIDENING 1
 #define PIPPINTERM_ROW_INNER_BROW 2
@@ -59,11 +76,12 @@ extern "C" {
 #define PIPPINTERM_ROW_OUTER_BROW 6
 #define PIPPINTERM_ROW_NUMBERS 7
 
-/* The numbers of a curve in a card list, in their order. */
+/* The numbers of a curve in a card list, in their order. The card of curve i, counted
+   from 0, is handed on as it stands: list + 13 x i + 2. */
 #define PIPPINTERM_CURVE_NAME_PLACE 0 /* byte place of the name in the text or in the names' bytes, from 0 */
 #define PIPPINTERM_CURVE_NAME_SIZE 1  /* how many bytes the name has, 1 to 8 */
-#define PIPPINTERM_CURVE_CARD 2       /* the eight numbers of its card begin here */
-#define PIPPINTERM_CURVE_NUMBERS 10
+#define PIPPINTERM_CURVE_CARD 2       /* the eleven numbers of its card begin here */
+#define PIPPINTERM_CURVE_NUMBERS 13
 
 /* The numbers of a card in the reply list of a day, in their order. */
 #define PIPPINTERM_REPLY_REASON 0     /* 0, or the reason that refuses the card */
@@ -78,8 +96,8 @@ extern "C" {
 #define PIPPINTERM_ENOUGH_REPLIES 128 /* numbers of a reply list that is long enough for every day */
 #define PIPPINTERM_MOST_CURVES 64     /* no book has more curves */
 #define PIPPINTERM_MOST_BYTES 8192    /* a text above this is refused */
-#define PIPPINTERM_LEAST_LIST 640     /* a list below this is refused; enough for every book */
-#define PIPPINTERM_ENOUGH_BOOK 4897   /* bytes of a buffer that is long enough for every book */
+#define PIPPINTERM_LEAST_LIST 832     /* a list below this is refused; enough for every book */
+#define PIPPINTERM_ENOUGH_BOOK 6049   /* bytes of a buffer that is long enough for every book */
 
 /* The profiles: widths in mm, slopes in per mille, least radius in metres.
    Profile, half the carriageway, shoulder, crown slope, shoulder slope, least
@@ -101,9 +119,10 @@ extern "C" {
 /* What a turned-away card, book, day or list says: the trade's word, and the condition.
    A line is malformed where it is missing, not ended by byte 10, or anything
    else than: a number (the count line); a name, one blank and a number (a
-   contents line); eight numbers with one blank between (a body). A number is 1
-   to 7 decimal digits, without a leading zero but in 0 itself; a name is 1 to 8
-   capitals or digits. */
+   contents line); eight numbers with one blank between, or ten (the body of a
+   relative curve, or of an absolute one). A number is 1 to 7 decimal digits,
+   without a leading zero but in 0 itself; the last two of ten may have a minus
+   before a number other than 0. A name is 1 to 8 capitals or digits. */
 #define PIPPINTERM_ACCEPTED 0
 #define PIPPINTERM_REFUSED_PROFILE 1          /* profile: not 1 to 5 */
 #define PIPPINTERM_REFUSED_TERRAIN 2          /* terrain: not 1 or 2 */
@@ -124,21 +143,28 @@ extern "C" {
 #define PIPPINTERM_REFUSED_TWIN_NAME 25       /* twin name: stands in an earlier contents line */
 #define PIPPINTERM_REFUSED_BODY 26            /* body: malformed */
 #define PIPPINTERM_REFUSED_TAIL 27            /* tail: bytes after the last body */
-#define PIPPINTERM_REFUSED_SHORT_LIST 28      /* short list: below 640 numbers; line 0 */
+#define PIPPINTERM_REFUSED_SHORT_LIST 28      /* short list: below 832 numbers; line 0 */
 #define PIPPINTERM_REFUSED_MANY_CARDS 29      /* many cards: more than 64 in one call */
 #define PIPPINTERM_REFUSED_SHORT_REPLIES 30   /* short replies: a reply list below two numbers a card */
-#define PIPPINTERM_REFUSED_WRONG_LIST 31      /* wrong list: a length not ten times 1 to 64, a malformed name,
-                                                 or one outside the names' bytes */
+#define PIPPINTERM_REFUSED_WRONG_LIST 31      /* wrong list: a length not thirteen times 1 to 64, a malformed
+                                                 name, or one outside the names' bytes: so is one with
+                                                 a place or a length below 0 */
 #define PIPPINTERM_REFUSED_LISTED_TWIN 32     /* listed twin: a twin name, two names of the same bytes */
-#define PIPPINTERM_REFUSED_SHORT_BUFFER 33    /* short buffer: below the book's bytes, or a number above
-                                                 seven digits */
+#define PIPPINTERM_REFUSED_SHORT_BUFFER 33    /* short buffer: below the book's bytes; or a number above
+                                                 seven digits, its minus not counted; a mark not 0 or 1;
+                                                 one of the first eight numbers of a card below 0; or
+                                                 a height or a grade other than 0 beside mark 0 */
+#define PIPPINTERM_REFUSED_HEIGHT 34          /* height: of an absolute card, outside -100000 to 9000000, or
+                                                 not a whole number of units */
+#define PIPPINTERM_REFUSED_GRADE 35           /* grade: of an absolute card, outside -80 to 80 */
 
 /*
  * Checks a card.
- * Gives 0 where none of the reasons 1 to 6 and 8 to 10 is met, else the number
- * of the first one that is, in rising order. Changes nothing.
+ * Gives 0 where none of the reasons 1 to 6, 8 to 10, 34 and 35 is met, else the
+ * number of the first one that is, in this order. A relative card meets neither 34
+ * nor 35. Changes nothing.
  */
-uint32_t pippinterm_check_card(const uint32_t card[PIPPINTERM_CARD_NUMBERS]);
+uint32_t pippinterm_check_card(const int32_t card[PIPPINTERM_CARD_NUMBERS]);
 
 /*
  * The least length of a clothoid by the radius, both in metres: 1000 times as
@@ -159,11 +185,11 @@ uint32_t pippinterm_least_length(uint32_t radius, uint32_t *looked);
  * and the rows stand in the table from its start, seven numbers each, at
  * stations 0, step, 2 x step and so on below the clothoid's end, then one at
  * its end. The table's numbers after the last row are as they were.
- * Else gives the number of the first reason met, 1 to 6 and 8 to 11 in rising
- * order: *count is then 0, and the table is as it was.
+ * Else gives the number of the first reason met, 1 to 6, 8 to 10, 34, 35 and at
+ * last 11: *count is then 0, and the table is as it was.
  * table_length is in numbers, not in bytes, and may be any, 0 too.
  */
-uint32_t pippinterm_fill_table(const uint32_t card[PIPPINTERM_CARD_NUMBERS],
+uint32_t pippinterm_fill_table(const int32_t card[PIPPINTERM_CARD_NUMBERS],
                                int32_t *table, size_t table_length,
                                uint32_t *count);
 
@@ -182,13 +208,13 @@ uint32_t pippinterm_fill_table(const uint32_t card[PIPPINTERM_CARD_NUMBERS],
  * card's two, are as they were. No cards at all are right: 0, and *count is 0.
  * Else gives 29 for more than 64 cards, then 30 for a shorter reply list: *count
  * is then 0, and the table and the reply list are as they were.
- * cards_length is in cards of eight numbers, table_length and replies_length are
- * in numbers; each may be any, 0 too. A book's list has ten numbers a curve, so
- * copy the eight of each card out of it. Cards that are not const are handed over
- * as they are; C before C23 may want (const uint32_t (*)[8])cards, as gcc does
+ * cards_length is in cards of eleven numbers, table_length and replies_length are
+ * in numbers; each may be any, 0 too. A book's list has thirteen numbers a curve, so
+ * copy the eleven of each card out of it. Cards that are not const are handed over
+ * as they are; C before C23 may want (const int32_t (*)[11])cards, as gcc does
  * with -pedantic.
  */
-uint32_t pippinterm_fill_day(const uint32_t (*cards)[PIPPINTERM_CARD_NUMBERS],
+uint32_t pippinterm_fill_day(const int32_t (*cards)[PIPPINTERM_CARD_NUMBERS],
                              size_t cards_length,
                              int32_t *table, size_t table_length,
                              uint32_t *replies, size_t replies_length,
@@ -198,27 +224,30 @@ uint32_t pippinterm_fill_day(const uint32_t (*cards)[PIPPINTERM_CARD_NUMBERS],
  * Reads a book of cards into a list.
  * Gives 0 for an accepted book: *count is then the count of curves, 1 to 64,
  * *line is 0, and the curves stand in the list from its start in the order of
- * the book, ten numbers each. The list's numbers after them are as they were.
+ * the book, thirteen numbers each. The list's numbers after them are as they were.
  * Else gives the number of the refusal: 28, then 21, then that of the first
  * line at fault, 22 to 27, in a contents line 23 before 24 before 25. *count
  * is then 0, *line is the number of that line, from 1, and 0 with 28 and 21;
  * the list is as it was. With n curves the i-th contents line names line
  * n + 1 + i, and 27 names line 2 x n + 2.
- * A curve whose card would be refused does not refuse its book.
+ * A curve whose card would be refused does not refuse its book, so that heights and
+ * grades of up to seven digits are read.
  * text_length is in bytes, list_length in numbers; each may be any, 0 too.
  */
 uint32_t pippinterm_read_book(const uint8_t *text, size_t text_length,
-                              uint32_t *list, size_t list_length,
+                              int32_t *list, size_t list_length,
                               uint32_t *count, uint32_t *line);
 
 /*
  * Writes the book of a list of curves, as pippinterm_read_book gives it.
- * The list has ten numbers a curve and nothing else: of a list that was read,
- * hand over its first 10 x count numbers. The places of the names count in
+ * The list has thirteen numbers a curve and nothing else: of a list that was read,
+ * hand over its first 13 x count numbers. An absolute curve gets a body of ten
+ * numbers, a relative one of eight; to make a curve relative, set its mark, its
+ * height and its grade to 0. The places of the names count in
  * names, which is the text that was read, or any other bytes; names are compared
  * as bytes, wherever they stand.
  * Gives 0 for a list that makes a book which the buffer has room for: *count is
- * then the count of its bytes, at most 4897, and they stand in the buffer from its
+ * then the count of its bytes, at most 6049, and they stand in the buffer from its
  * start; the later bytes are as they were. Reading these bytes gives the names and
  * the numbers of the list, and a list that was read from a book, with the text of
  * that book as names, gives the book's bytes again.
@@ -228,7 +257,7 @@ uint32_t pippinterm_read_book(const uint8_t *text, size_t text_length,
  * list_length is in numbers, names_length and buffer_length are in bytes; each
  * may be any, 0 too. The buffer may not be the text that holds the names.
  */
-uint32_t pippinterm_write_book(const uint32_t *list, size_t list_length,
+uint32_t pippinterm_write_book(const int32_t *list, size_t list_length,
                                const uint8_t *names, size_t names_length,
                                uint8_t *buffer, size_t buffer_length,
                                uint32_t *count);

@@ -1,4 +1,4 @@
-// The calls for firmware in C: the library's own, with the card as its eight numbers and the reply as a number and counts.
+// The calls for firmware in C: the library's own, with the card as its eleven numbers and the reply as a number and counts.
 use book::read_book;
 use book::write_book;
 use card::least_length;
@@ -33,18 +33,18 @@ pub extern "C" fn pippinterm_least_length(radius: u32, looked: &mut u32) -> u32
     found.length
 }
 
-// 0 for an accepted card, else the number of the first of its own reasons: 1 to 6, 8, 9 or 10.
+// 0 for an accepted card, else the number of the first of its own reasons: 1 to 6, 8, 9, 10, 34 or 35.
 #[no_mangle]
-pub extern "C" fn pippinterm_check_card(card: &[u32; 8]) -> u32
+pub extern "C" fn pippinterm_check_card(card: &[i32; 11]) -> u32
     ensures { λ r. ⌜ r ≡ refusal (cardOf (now (card .entry))) ⌝ }
 {
     let c = card_of_numbers(card);
     check_card(c)
 }
 
-// Fills the lent table with the card's rows: 0, and `count` has how many; or the number of the reason, 1 to 6 or 8 to 11, `count` has 0, and the table is as it was.
+// Fills the lent table with the card's rows: 0, and `count` has how many; or the number of the reason, 1 to 6, 8 to 11, 34 or 35, `count` has 0, and the table is as it was.
 #[no_mangle]
-pub extern "C" fn pippinterm_fill_table(card: &[u32; 8], table: &mut [i32], count: &mut u32) -> u32
+pub extern "C" fn pippinterm_fill_table(card: &[i32; 11], table: &mut [i32], count: &mut u32) -> u32
     ensures { λ r. ⌜ r ≡ replyTo (cardOf (now (card .entry))) (length (now (table .entry))) .number ⌝ }
     ensures { λ _. ⌜ now (count .exit) ≡ replyTo (cardOf (now (card .entry))) (length (now (table .entry))) .count ⌝ }
     ensures { λ _. ⌜ now (table .exit) ≡ tableAfter (cardOf (now (card .entry))) (now (table .entry)) ⌝ }
@@ -57,11 +57,11 @@ pub extern "C" fn pippinterm_fill_table(card: &[u32; 8], table: &mut [i32], coun
     reply.number
 }
 
-// Fills the lent table with the rows of a day's cards, eight numbers each, and the reply list with each card's number and count: 0, and `count`
+// Fills the lent table with the rows of a day's cards, eleven numbers each, and the reply list with each card's number and count: 0, and `count`
 // has how many cards; or 29 or 30, `count` has 0, and both are as they were.
 #[no_mangle]
 pub extern "C" fn pippinterm_fill_day(
-    cards: &[[u32; 8]],
+    cards: &[[i32; 11]],
     table: &mut [i32],
     replies: &mut [u32],
     count: &mut u32,
@@ -78,11 +78,11 @@ pub extern "C" fn pippinterm_fill_day(
     reply.number
 }
 
-// Reads a book into the lent list, ten numbers a curve: 0, and `count` has how many curves; or the number of the refusal, 21 to 28, `count` has 0, and the list is as it was. `line` has the line at fault, and 0 where it is no line's.
+// Reads a book into the lent list, thirteen numbers a curve: 0, and `count` has how many curves; or the number of the refusal, 21 to 28, `count` has 0, and the list is as it was. `line` has the line at fault, and 0 where it is no line's.
 #[no_mangle]
 pub extern "C" fn pippinterm_read_book(
     text: &[u8],
-    list: &mut [u32],
+    list: &mut [i32],
     count: &mut u32,
     line: &mut u32,
 ) -> u32
@@ -99,11 +99,11 @@ pub extern "C" fn pippinterm_read_book(
     reply.number
 }
 
-// Writes the book of a list of curves, ten numbers each, whose names stand in the bytes of `names`: 0, and `count` has how many bytes; or the
+// Writes the book of a list of curves, thirteen numbers each, whose names stand in the bytes of `names`: 0, and `count` has how many bytes; or the
 // number of the refusal, 31 to 33, `count` has 0, and the buffer is as it was.
 #[no_mangle]
 pub extern "C" fn pippinterm_write_book(
-    list: &[u32],
+    list: &[i32],
     names: &[u8],
     buffer: &mut [u8],
     count: &mut u32,

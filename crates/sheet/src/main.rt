@@ -9,6 +9,7 @@ use sheet_text::Written;
 ghost use mathlib.Core.Bool.{true};
 ghost use mathlib.Core.Path.{_≡_};
 ghost use Prim.Native.Nat.{_≤_, _<_};
+ghost use lib.IntN.{pos};
 ghost use lib.ListN.{length, replicate};
 ghost use Rattle.book.specs.Book.{leastList, replyToBook, listAfter};
 ghost use Rattle.sheet_text.specs.Buffer.{writtenOf, bufferAfter};
@@ -36,7 +37,7 @@ fn print_book(reply: BookReply, buffer: &mut [u8])
 // Writes the text of a curve of the list, counted from 0: its card goes to the table call, and the reply and the rows become text.
 fn write_curve(
     text: &[u8],
-    list: &[u32; LEAST_LIST],
+    list: &[i32; LEAST_LIST],
     curve: u32,
     table: &mut [i32],
     buffer: &mut [u8],
@@ -52,12 +53,12 @@ fn write_curve(
 // Prints a curve that the book counts, from the list that its text was read into.
 fn print_curve(
     text: &[u8],
-    list: &[u32; LEAST_LIST],
+    list: &[i32; LEAST_LIST],
     curve: u32,
     table: &mut [i32],
     buffer: &mut [u8],
 )
-    requires { ⌜ now list ≡ listAfter (now text) (replicate leastList 0) ⌝ }
+    requires { ⌜ now list ≡ listAfter (now text) (replicate leastList (pos 0)) ⌝ }
     requires { ⌜ curve < (replyToBook (now text) leastList) .count ⌝ }
     requires { ⌜ (enoughNumbers ≤ length (now table)) × (enoughBytes ≤ length (now buffer)) ⌝ }
 {
@@ -67,7 +68,7 @@ fn print_curve(
 
 // Prints a refused book's line, or each curve of an accepted one, in order.
 fn print_sheet(text: &[u8]) {
-    let mut list = [0u32; LEAST_LIST];
+    let mut list = [0i32; LEAST_LIST];
     let mut table = [0i32; ENOUGH_NUMBERS];
     let mut buffer = [0u8; ENOUGH_BYTES];
     let reply = book::read_book(text, &mut list);

@@ -1,4 +1,5 @@
--- Document 01's own sheet, from the rows of RAMP's card, and its two refusals. What the card, its rows and its book are is cited.
+-- Document 01's own sheet, and that of its card above the benchmark, from the rows of the cards, and its two refusals. What the cards, their
+-- rows and their books are is cited.
 -- Assumes nothing.
 use mathlib.Core.Path.{_≡_, refl, sym, ap, ap₂, _∙_}
 use mathlib.Core.List.{List, [], _∷_, _++_}
@@ -8,16 +9,22 @@ use lib.IntN.{ℤ, pos, negsuc}
 use lib.ListN.{length, take, drop, replicate}
 use Rattle.decimal.specs.Decimal.{mostDigits, signedText}
 use Rattle.decimal.proofs.Digits.{digitsInto, digits-into}
+use Rattle.card.specs.declared.Card.{Card}
 use Rattle.card.specs.Card as card
+use Rattle.card_list.specs.List.{cardOf}
 use Rattle.runoff.specs.Rows.{rowWidth, rowCount, rows}
+use Rattle.runoff.specs.Refusal.{refusal}
+use Rattle.runoff.specs.AbsoluteReadings.{fallingRamp}
 use Rattle.runoff.proofs.StarredReadings.{readings}
+use Rattle.runoff.proofs.AbsoluteComputed.{absolute-readings}
 use Rattle.book.specs.Body.{endOf}
 use Rattle.book.specs.Book.{leastList}
-use Rattle.book.specs.RampBook.{ramp}
-use Rattle.book.proofs.RampReads.{ramp-book}
+use Rattle.book.specs.Printed.{Curve}
+use Rattle.book.specs.RampBook.{ramp, survey}
+use Rattle.book.proofs.RampReads.{ramp-book, survey-book}
 use Rattle.sheet_text.specs.Text.{rowText, rowsText, heldRows, endedText, blank, refusedWord, bookWord, lineWord, acceptedText, refusedText, refusedBookText}
 use Rattle.sheet_text.specs.Sheet.{cardSheet, curvesSheet, sheetOf}
-use Rattle.sheet_text.specs.RampSheet.{rampName, rampPrinted, RampSheet}
+use Rattle.sheet_text.specs.RampSheet.{rampName, rampPrinted, surveyPrinted, RampSheet}
 use Rattle.sheet_text.proofs.Sheets.{accepted-sheet, sheets}
 
 -- ---- the texts as they are computed: the digits of every figure put before what stands behind them
@@ -65,25 +72,35 @@ unfolding acceptedText
 accepted-into name count table =
     ap₂ (λ (t u : List ℕ). name ++ (t ++ u)) (ended-into blank count) (rows-into (heldRows count table) table)
 
--- ---- RAMP
-card-sheet : cardSheet rampName card.ramp ≡ rampPrinted
-card-sheet =
-    accepted-sheet rampName card.ramp (readings .ramp-accepted) []
-    ∙ accepted-into rampName (rowCount card.ramp) (rows card.ramp ++ [])
-    ∙ ap₂ (λ (n : ℕ) (l : List ℤ). acceptedInto rampName n (l ++ [])) (readings .ramp-count) (readings .ramp-rows)
+-- ---- RAMP, and the same card above the benchmark
+module _ (x : Card) (e : refusal x ≡ 0) (l : List ℤ) (counted : rowCount x ≡ 3) (rowed : rows x ≡ l) where
+  three-rows : cardSheet rampName x ≡ acceptedInto rampName 3 (l ++ [])
+  three-rows =
+      accepted-sheet rampName x e []
+      ∙ accepted-into rampName (rowCount x) (rows x ++ [])
+      ∙ ap₂ (λ (n : ℕ) (r : List ℤ). acceptedInto rampName n (r ++ [])) counted rowed
 
-curve-sheet : curvesSheet (ramp ∷ []) ≡ rampPrinted
-unfolding curvesSheet
-curve-sheet = ap (λ (t : List ℕ). t ++ []) (ap (cardSheet rampName) (ramp-book .hands) ∙ card-sheet)
+-- the sheet of a book with one curve of RAMP's name, whose card has this sheet
+module _ (curve : Curve) (x : Card) (printed : List ℕ) (named : curve .name ≡ rampName) (hands : cardOf (curve .numbers) ≡ x) (its : cardSheet rampName x ≡ printed) where
+  one-curve : curvesSheet (curve ∷ []) ≡ printed ++ []
+  unfolding curvesSheet
+  one-curve = ap (λ (t : List ℕ). t ++ []) (ap₂ cardSheet named hands ∙ its)
 
 pub ramp-prints : RampSheet
 unfolding refusedText refusedBookText
 ramp-prints = record {
   sheet = λ tables long.
-      let list : List ℕ = replicate leastList 0 in
+      let list : List ℤ = replicate leastList (pos 0) in
       ap (λ (t : List ℕ). sheetOf t list tables) (sym (ramp-book .text))
       ∙ sheets .book (ramp ∷ []) list tables (ramp-book .is-book) (lit≤ tt) long
-      ∙ curve-sheet;
+      ∙ one-curve ramp card.ramp rampPrinted refl (ramp-book .hands)
+      (three-rows card.ramp (readings .ramp-accepted) _ (readings .ramp-count) (readings .ramp-rows));
+  survey = λ tables long.
+      let list : List ℤ = replicate leastList (pos 0) in
+      ap (λ (t : List ℕ). sheetOf t list tables) (sym (survey-book .text))
+      ∙ sheets .book (survey ∷ []) list tables (survey-book .is-book) (lit≤ tt) long
+      ∙ one-curve survey fallingRamp surveyPrinted refl (survey-book .hands)
+      (three-rows fallingRamp (absolute-readings .ramp-accepted) _ (absolute-readings .ramp-count) (absolute-readings .ramp-rows));
   card = ap (λ (t : List ℕ). rampName ++ t) (ended-into refusedWord 8);
   book =
       ap (λ (t : List ℕ). bookWord ++ t)

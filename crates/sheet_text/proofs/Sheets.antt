@@ -86,7 +86,7 @@ line-short reply =
     (λ t. simp length-append (omega (arith, digits-most mostDigits (reply .number), ended-short lineWord (reply .line))))
 
 -- each curve that stands in a book, by the calls
-part-sheet : (before : List Curve) (curve : Curve) (later : List Curve) (list : List ℕ) (table : List ℤ)
+part-sheet : (before : List Curve) (curve : Curve) (later : List Curve) (list table : List ℤ)
     → IsBook (before ++ (curve ∷ later)) → leastList ≤ length list → enoughNumbers ≤ length table
     → partOf (bookText (before ++ (curve ∷ later))) (listAfter (bookText (before ++ (curve ∷ later))) list) (length before) table ≡ curveSheet curve
 part-sheet before curve later list table book room long =
@@ -100,7 +100,7 @@ sheet-more [] curve = append-nil (curveSheet curve)
 sheet-more (first ∷ before) curve =
     ap (λ (t : List ℕ). curveSheet first ++ t) (sheet-more before curve) ∙ sym (append-assoc (curveSheet first) (curvesSheet before) (curveSheet curve))
 
-module _ (list : List ℕ) (tables : ℕ → List ℤ) (room : leastList ≤ length list) (long : (k : ℕ) → enoughNumbers ≤ length (tables k)) where
+module _ (list : List ℤ) (tables : ℕ → List ℤ) (room : leastList ≤ length list) (long : (k : ℕ) → enoughNumbers ≤ length (tables k)) where
   abbrev parts : List Curve → ℕ → List ℕ
   parts curves = partsOf (bookText curves) (listAfter (bookText curves) list) tables
 
@@ -126,14 +126,14 @@ module _ (list : List ℕ) (tables : ℕ → List ℤ) (room : leastList ≤ len
       parts-sheet (before ++ (curve ∷ [])) later curves (e ∙ sym (append-assoc before (curve ∷ []) later)) book
       (next-part before curve later curves e book so-far)
 
-book-sheet : (curves : List Curve) (list : List ℕ) (tables : ℕ → List ℤ) → IsBook curves → leastList ≤ length list
+book-sheet : (curves : List Curve) (list : List ℤ) (tables : ℕ → List ℤ) → IsBook curves → leastList ≤ length list
     → ((k : ℕ) → enoughNumbers ≤ length (tables k)) → sheetOf (bookText curves) list tables ≡ curvesSheet curves
 unfolding sheetOf partsOf curvesSheet
 book-sheet curves list tables book room long =
     ap (λ (r : BookReply). bookLine r ++ parts list tables room long curves (r .count)) (meaning .accepted curves book list room .0)
     ∙ parts-sheet list tables room long [] curves curves refl book refl
 
-refused-sheet : (text list : List ℕ) (tables : ℕ → List ℤ) → ((replyToBook text (length list)) .number ≡ 0 → ⊥)
+refused-sheet : (text : List ℕ) (list : List ℤ) (tables : ℕ → List ℤ) → ((replyToBook text (length list)) .number ≡ 0 → ⊥)
     → sheetOf text list tables ≡ bookLine (replyToBook text (length list))
 unfolding sheetOf partsOf
 refused-sheet text list tables ne =
@@ -163,7 +163,7 @@ placed (first ∷ curves) (suc i) h =
       place = ap suc (p .place);
     }
 
-module _ (list : List ℕ) (table : List ℤ) (long : enoughNumbers ≤ length table) where
+module _ (list table : List ℤ) (long : enoughNumbers ≤ length table) where
   abbrev partIn : List ℕ → ℕ → List ℕ
   partIn text i = partOf text (listAfter text list) i table
 

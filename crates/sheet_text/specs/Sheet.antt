@@ -46,17 +46,17 @@ enoughBytes = 25304
 
 -- what the calls give for a curve of a list, counted from 0: its card is handed to the table call, and its name, the reply and the rows
 -- become text
-abbrev pub partOf : List ℕ → List ℕ → ℕ → List ℤ → List ℕ
+abbrev pub partOf : List ℕ → List ℤ → ℕ → List ℤ → List ℕ
 partOf text list curve table =
     curveText (nameIn text list curve) (replyTo (cardIn list curve) (length table)) (tableAfter (cardIn list curve) table)
 
 -- what they give for its first k curves, in order, each with the table that is lent for it
-unfoldable pub partsOf : List ℕ → List ℕ → (ℕ → List ℤ) → ℕ → List ℕ
+unfoldable pub partsOf : List ℕ → List ℤ → (ℕ → List ℤ) → ℕ → List ℕ
 partsOf text list tables zero = []
 partsOf text list tables (suc k) = partsOf text list tables k ++ partOf text list k (tables k)
 
 -- the whole sheet of a text that is read into a lent list: the book's own line, and what the calls give for each curve that the book counts
-unfoldable pub sheetOf : List ℕ → List ℕ → (ℕ → List ℤ) → List ℕ
+unfoldable pub sheetOf : List ℕ → List ℤ → (ℕ → List ℤ) → List ℕ
 sheetOf text list tables =
     bookLine (replyToBook text (length list))
     ++ partsOf text (listAfter text list) tables ((replyToBook text (length list)) .count)
@@ -67,16 +67,16 @@ pub record SheetTheorem : Type 0 where
   pub curve : (name : List ℕ) (card : Card) (table : List ℤ) → enoughNumbers ≤ length table
       → curveText name (replyTo card (length table)) (tableAfter card table) ≡ cardSheet name card
   -- so what the calls give for each curve of a book is that curve's sheet, whatever list and table that are long enough are lent
-  pub part : (before : List Curve) (curve : Curve) (later : List Curve) (list : List ℕ) (table : List ℤ)
+  pub part : (before : List Curve) (curve : Curve) (later : List Curve) (list table : List ℤ)
       → IsBook (before ++ (curve ∷ later)) → leastList ≤ length list → enoughNumbers ≤ length table
       → partOf (bookText (before ++ (curve ∷ later))) (listAfter (bookText (before ++ (curve ∷ later))) list) (length before) table ≡ curveSheet curve
   -- and the whole sheet of a book is that of its curves, in book order
-  pub book : (curves : List Curve) (list : List ℕ) (tables : ℕ → List ℤ) → IsBook curves → leastList ≤ length list
+  pub book : (curves : List Curve) (list : List ℤ) (tables : ℕ → List ℤ) → IsBook curves → leastList ≤ length list
       → ((k : ℕ) → enoughNumbers ≤ length (tables k)) → sheetOf (bookText curves) list tables ≡ curvesSheet curves
   -- the sheet of a refused book is its one line
-  pub refused : (text list : List ℕ) (tables : ℕ → List ℤ) → ((replyToBook text (length list)) .number ≡ 0 → ⊥)
+  pub refused : (text : List ℕ) (list : List ℤ) (tables : ℕ → List ℤ) → ((replyToBook text (length list)) .number ≡ 0 → ⊥)
       → sheetOf text list tables ≡ bookLine (replyToBook text (length list))
   -- no curve that a book counts needs more than 25304 bytes, nor does the line of any reply to a book
-  pub fits : (text list : List ℕ) (curve : ℕ) (table : List ℤ) → curve < (replyToBook text (length list)) .count
+  pub fits : (text : List ℕ) (list : List ℤ) (curve : ℕ) (table : List ℤ) → curve < (replyToBook text (length list)) .count
       → enoughNumbers ≤ length table → length (partOf text (listAfter text list) curve table) ≤ enoughBytes
   pub line : (reply : BookReply) → length (bookLine reply) ≤ enoughBytes

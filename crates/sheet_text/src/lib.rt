@@ -52,7 +52,7 @@ fn no_bytes() -> Written
 // The text of a curve of the list, counted from 0, by the reply to its card and the table afterwards.
 pub fn curve_text(
     text: &[u8],
-    list: &[u32],
+    list: &[i32],
     curve: u32,
     reply: Reply,
     table: &[i32],

@@ -1,4 +1,4 @@
--- `capi::pippinterm_check_card` meets its contract: it replies what `check_card` does for the card of the eight numbers.
+-- `capi::pippinterm_check_card` meets its contract: it replies what `check_card` does for the card of the eleven numbers.
 -- Assumes nothing.
 use borrow.Author.Needs.{needs}
 use mathlib.Core.Path.{_∙_, ap}

@@ -1,4 +1,4 @@
--- `capi::pippinterm_fill_table` meets its contract: what `fill_table` promises for the card, it promises for the card of the eight numbers.
+-- `capi::pippinterm_fill_table` meets its contract: what `fill_table` promises for the card, it promises for the card of the eleven numbers.
 -- Assumes nothing.
 use borrow.Author.Needs.{needs}
 use mathlib.Core.Path.{_≡_, ap, subst}

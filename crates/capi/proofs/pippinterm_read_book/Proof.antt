@@ -14,7 +14,7 @@ same-length c = search needs
 
 returns : tie.Need-returns
 returns c =
-    let gave = c .before .before .read-book .ensures in (
+    let gave = c .before .read-book .ensures in (
       ap (λ (r : BookReply). r .number) (gave .0),
       (ap (λ (r : BookReply). r .count) (gave .0), (ap (λ (r : BookReply). r .line) (gave .0), gave .1)),
     )

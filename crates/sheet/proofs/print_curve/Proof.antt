@@ -4,6 +4,7 @@ use native.Mathlib.Omega.{arith}
 use Prim.Native.Nat.{ℕ, _≤_}
 use mathlib.Core.Path.{sym, subst}
 use mathlib.Core.List.{List}
+use lib.IntN.{ℤ, pos}
 use lib.ListN.{length, replicate}
 use Rattle.book.specs.Book.{leastList}
 use Rattle.sheet_text.specs.Sheet.{enoughBytes, partOf}
@@ -24,8 +25,8 @@ print-written-requires c κs =
     let asked = start .pre in
     let text = a .text .now in
     let short : length (partOf text (a .list .now) (a .curve) (a .table .now)) ≤ enoughBytes =
-    subst (λ (l : List ℕ). length (partOf text l (a .curve) (a .table .now)) ≤ enoughBytes) (sym (asked .0))
-    (sheets .fits text (replicate leastList 0) (a .curve) (a .table .now) (asked .1 .0) (asked .1 .1 .0)) in
+    subst (λ (l : List ℤ). length (partOf text l (a .curve) (a .table .now)) ≤ enoughBytes) (sym (asked .0))
+    (sheets .fits text (replicate leastList (pos 0)) (a .curve) (a .table .now) (asked .1 .0) (asked .1 .1 .0)) in
     let size = length (partOf text (a .list .now) (a .curve) (a .table .now)) in
     let room = length (a .buffer .now) in (
       fits-said size room (w .ensures .0) (omega (arith, short, asked .1 .1 .1)),

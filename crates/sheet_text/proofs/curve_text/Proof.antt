@@ -11,7 +11,7 @@ use Rattle.sheet_text.proofs.curve_text.Tie as tie
 use Rattle.card_list.specs.List.{nameBytes, nameIn}
 
 abbrev start : tie.After-smaller2 → tie.Start
-start c = c .before .before .before .before .before .before .before .before
+start c = c .before .before .before .before .before .before .before
 
 -- the part that is handed on is the curve's name
 name-is : (c : tie.After-smaller2)

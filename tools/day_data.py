@@ -5,45 +5,79 @@
     python3 tools/day_data.py wrong > runs/wrong/day.text
 
 runs/day.c says what the lines are. A card by itself is reckoned by tools/reckon.py, a day by Slip 2 of document 02, whose words are
-quoted; nothing is shared with the library.
+quoted; nothing is shared with the library. A card here has the eleven numbers that a list of Slip 5 has for it: eight, 0 or 1 for
+absolute, the height and the grade.
 """
 import itertools
 import sys
 
 import reckon
 
-RAMP = (5, 1, 30, 30000, 60, 600, 20000, 1)
+RELATIVE = (0, 0, 0)
+RAMP = (5, 1, 30, 30000, 60, 600, 20000, 1, *RELATIVE)
 # Document 01 prints RAMP's rows; a reckoning that gives others ends here.
 RAMP_ROWS = [
     [0, 0, 0, 105, 172, 105, 52],
     [20000, 400, 12, 93, 172, 240, 292],
     [30000, 600, -68, 1, 172, 307, 412],
 ]
+# The same card 250 m above the benchmark on a road that falls by 35 permille; docs/ABSOLUTE-RAMP.md has its rows, by hand.
+RAISED = (*RAMP[:8], 1, 250000, -35)
+RAISED_ROWS = [
+    [0, 0, 249827, 249932, 250000, 249932, 249880],
+    [20000, 400, 249139, 249220, 249300, 249367, 249420],
+    [30000, 600, 248710, 248779, 248950, 249085, 249190],
+]
 # "L 110000: 7 rows; a table of 48 numbers gives 11, of 49 passes." (document 01)
-SEVEN = (1, 1, 2000, 110000, 20, 0, 20000, 1)
+SEVEN = (1, 1, 2000, 110000, 20, 0, 20000, 1, *RELATIVE)
 # Seven rows too, in centimetres; document 01 gives some of their figures.
-STAKED = (3, 1, 700, 120000, 40, 400, 20000, 10)
+STAKED = (3, 1, 700, 120000, 40, 400, 20000, 10, *RELATIVE)
 # L 300 m and a step of 1 m: no card has more than these 301 rows.
-LONGEST = (2, 2, 400, 300000, 60, 1200, 1000, 1)
+LONGEST = (2, 2, 400, 300000, 60, 1200, 1000, 1, *RELATIVE)
 # RAMP's, 1 mm too short: refused with 4.
-SHORT = (5, 1, 30, 29999, 60, 600, 20000, 1)
+SHORT = (5, 1, 30, 29999, 60, 600, 20000, 1, *RELATIVE)
+# The greatest and the least number of a card.
+MOST, LEAST = 2147483647, -2147483648
+
+
+def changed(card, *numbers):
+    """The card with other numbers, each given by its place, from 0, and itself."""
+    other = list(card)
+    for place, number in zip(numbers[::2], numbers[1::2]):
+        other[place] = number
+    return tuple(other)
+
+
 # One card for each reason, in order; 7 never occurs again, and 11 is the table's.
 REFUSED = [
-    (6, 1, 30, 30000, 60, 600, 20000, 1),
-    (5, 3, 30, 30000, 60, 600, 20000, 1),
-    (5, 1, 29, 30000, 60, 600, 20000, 1),
+    changed(RAMP, 0, 6),
+    changed(RAMP, 1, 3),
+    changed(RAMP, 2, 29),
     SHORT,
-    (5, 1, 30, 30000, 29, 600, 20000, 1),
-    (5, 1, 30, 30000, 60, 3501, 20000, 1),
-    (1, 1, 125, 55000, 60, 0, 20000, 1),
-    (5, 1, 30, 30000, 60, 600, 999, 1),
-    (5, 1, 30, 30000, 60, 600, 20000, 5),
+    changed(RAMP, 4, 29),
+    changed(RAMP, 5, 3501),
+    (1, 1, 125, 55000, 60, 0, 20000, 1, *RELATIVE),
+    changed(RAMP, 6, 999),
+    changed(RAMP, 7, 5),
+    changed(RAISED, 9, 9000001),
+    changed(RAISED, 10, 81),
 ]
-EXTREME = (4294967295,) * 8
+EXTREME = (MOST,) * 11
 
 
-def single(card, room):
+def body_of(card):
+    """The eight numbers of a relative card, or the ten of an absolute one, as a book has them.
+
+    A card that no book gave may hold anything: one of the eight below 0 counts as the greatest of 32 bits, which every reason refuses,
+    and any mark but 0 is absolute; beside mark 0 height and grade are not looked at.
+    """
+    eight = [4294967295 if number < 0 else number for number in card[:8]]
+    return eight + list(card[9:]) if card[8] else eight
+
+
+def single(listed, room):
     """What a single call on so many numbers gives: the number and the rows."""
+    card = body_of(listed)
     number = reckon.refusal(card)
     if number:
         return number, []
@@ -101,8 +135,8 @@ def right_days():
         day([RAMP, STAKED], 70, 4), day([STAKED, RAMP], 70, 4), day([RAMP, RAMP], 42, 4)]
     yield "A refused card in the middle, first and last, and refused cards alone. The count is that of the cards.", [
         day(mixed, 70, 6), day([SHORT, RAMP, SHORT], 21, 6), day([SHORT, EXTREME, SHORT], 21, 6)]
-    yield "Each reason of a card, 1 to 6 and 8 to 10; the table is exact.", [
-        day([*REFUSED[:3], RAMP, *REFUSED[3:6], STAKED, *REFUSED[6:], RAMP], 91, 24)]
+    yield "Each reason of a card, 1 to 6, 8 to 10, 34 and 35; the table is exact.", [
+        day([*REFUSED[:3], RAMP, *REFUSED[3:6], STAKED, *REFUSED[6:], RAMP], 91, 28)]
     yield "The table ends inside the second card, and the third, which is shorter, still fits; then the third lacks 21 numbers, 1 and none.", [
         day(ends_inside, 69, 6), day(ends_inside, 70, 6), day(ends_inside, 90, 6), day(ends_inside, 91, 6)]
     yield "The table ends inside the first card, by one number; and inside every card.", [
@@ -120,6 +154,59 @@ def right_days():
     yield "65 cards: 29, with a reply list long enough, one number short (29 before 30), and none; with refused cards.", [
         day([RAMP] * 65, 1365, 130), day([RAMP] * 65, 1365, 129), day([RAMP] * 65, 1365, 128), day([RAMP] * 65, 0, 0, "z"),
         day([RAMP] + [SHORT] * 64, 21, 130)]
+    yield from absolute_days()
+    yield from other_lists_days()
+
+
+def on(card, height, grade):
+    """The card, absolute, with this height and this grade."""
+    return (*card[:8], 1, height, grade)
+
+
+def in_cm(card):
+    return changed(card, 7, 10)
+
+
+def absolute_days():
+    """Days of Slip 5."""
+    limits = [(height, grade) for height in (-100000, 9000000) for grade in (-80, 80)]
+    bend = (1, 1, 600, 120000, 60, 500, 20000, 1, *RELATIVE)
+    ends = [0, 1, 46, 47, 299, 300, 301, 302, 347, 348, 600, 601]
+    close = changed(STAKED, 6, 5000)
+    yield "RAMP above the benchmark, by itself, and with the relative one, either first.", [
+        day([RAISED], 21, 2), day([RAMP, RAISED], 42, 4), day([RAISED, RAMP], 42, 4)]
+    yield "A height and a grade at either limit on the longest clothoid, in mm and in cm.", [
+        day([on(LONGEST, *datum), on(in_cm(LONGEST), *datum)], 4214, 4, shown=ends) for datum in limits]
+    yield "Height 0 and grade 0 beside a relative card: all heights differ by the axis, 225 mm in the first two days.", [
+        day([card, on(card, 0, 0)], 98, 4) for card in (SEVEN, bend, STAKED, RAMP)]
+    yield "The axis halfway between two units, above nought and below.", [
+        day([on(close, height, grade)], 175, 2, shown=[0, 1, 2, 3, 23, 24])
+        for height, grade in ((0, 1), (0, -1), (-10, 1), (10, -1), (-100000, 80), (9000000, -80))]
+    yield "34: heights on either side of the limits, whole numbers of units or not.", [
+        day([on(RAMP, height, 0) for height in (-100001, -100000, -99999, -1, 0, 1, 8999999, 9000000, 9000001, MOST, LEAST)], 147, 22),
+        day([on(in_cm(RAMP), height, 0) for height in (
+            5, -5, 10, -10, 1, 9, -9, 11, -100000, -99990, -99995, -100010, 9000000, 8999990, 8999995, 9000010)], 126, 32)]
+    yield "35: grades on either side of the limits.", [
+        day([on(RAMP, 0, grade) for grade in (-81, -80, -79, -1, 1, 79, 80, 81, 8000, MOST, LEAST)], 126, 22)]
+    yield "Both at once: 34. A reason before them is met first; the table is looked at after them.", [
+        day([on(RAMP, 9000001, 81), on(in_cm(RAMP), 5, -81), changed(RAISED, 7, 5, 9, 9000001), changed(RAISED, 6, 999, 9, 9000001),
+             changed(RAISED, 3, 29999, 10, 81), changed(RAISED, 0, 6, 9, 9000001, 10, 81)], 21, 12),
+        day([RAISED, on(RAMP, 9000001, 0), on(RAMP, 0, 81)], 20, 6), day([on(RAMP, 5, 81), on(in_cm(RAMP), 5, 0)], 0, 4, "z")]
+    yield "64 absolute cards: all fit; one number short.", [
+        day([RAISED] * 64, 1344, 128, shown=[0, 1, 2, 189, 190, 191]), day([RAISED] * 64, 1343, 128, shown=[0, 188])]
+
+
+def other_lists_days():
+    """Days of cards that no book gave."""
+    yield "Beside mark 0 height and grade are not looked at.", [
+        day([changed(RAMP, 9, 250000, 10, -35), changed(RAMP, 9, MOST, 10, LEAST), changed(in_cm(RAMP), 9, 5, 10, 81)], 63, 6)]
+    yield "Every other mark is absolute, those that are 0 in fewer bits too; 34 and 35 are met.", [
+        day([changed(RAISED, 8, mark) for mark in (2, -1, 256, 65536, 16777216, MOST, LEAST)], 147, 14),
+        day([changed(RAISED, 8, 2, 9, 9000001), changed(RAISED, 8, -1, 10, 81)], 21, 4)]
+    yield "One of the eight below 0, of a relative card and of an absolute one: -1, the right number with a minus, the least of all.", [
+        day([changed(card, place, number or -card[place]) for place in range(8)] + [card], 21, 18)
+        for card in (RAMP, RAISED) for number in (-1, None, LEAST)]
+    yield "All eleven numbers the least; the first eight.", [day([(LEAST,) * 11, (-1,) * 8 + RELATIVE, RAMP], 21, 6)]
 
 
 def altered(lines, place, number, figure):
@@ -129,6 +216,21 @@ def altered(lines, place, number, figure):
         sys.exit("the figure is right: %s" % lines[place])
     other[place][number] = figure
     return other
+
+
+def place_of(lines, letter, which):
+    """Where the lines have this one of those that begin with the letter, from 0."""
+    return [place for place, line in enumerate(lines) if line[0] == letter][which]
+
+
+def wrong_row(lines, which, column, figure):
+    """The same day with another figure in this row and column."""
+    return altered(lines, place_of(lines, "r", which), 2 + column, figure)
+
+
+def wrong_reply(lines, number):
+    """The same day with another number for its first card."""
+    return altered(lines, place_of(lines, "p", 0), 2, number)
 
 
 def one_up(lines):
@@ -156,12 +258,44 @@ def wrong_days():
         altered(short, 4, 1, 0), altered(short, 4, 2, 3), altered(short, 5, 1, 70), altered(short, 5, 2, 5)]
     yield "29: 30 before it, not given, the count of cards given, the table written, the reply list written.", [
         altered(many, 2, 1, 30), altered(many, 2, 1, 0), altered(many, 2, 2, 65), altered(many, 3, 1, 1365), altered(many, 3, 2, 129)]
+    yield from wrong_absolute_days()
+
+
+def wrong_absolute_days():
+    """Figures that wrong programs would give of absolute cards, and of cards that no book gave."""
+    raised = day([RAISED], 21, 2)
+    low = day([on(RAMP, -100000, -35)], 21, 2)
+    close = day([on(changed(STAKED, 6, 5000), 0, -1)], 175, 2, shown=[0, 1, 2, 24])
+    height, grade, both = (day([on(RAMP, *datum)], 21, 2) for datum in ((9000001, 0), (0, 81), (9000001, 81)))
+    axis = 4
+    yield "RAMP above the benchmark: each figure one too high.", list(one_up(raised))
+    yield "The height rounded apart from the sum, or from the relative row; the row of the relative card.", [
+        wrong_row(raised, 0, 2, 249828), wrong_row(raised, 1, 2, 249140), wrong_row(raised, 0, 3, 249933), wrong_row(raised, 0, 2, 0)]
+    yield "The grade lost, its sign lost, times the step, times two steps; the height lost; the axis of the relative card.", [
+        wrong_row(raised, 1, axis, 250000), wrong_row(raised, 1, axis, 250700), wrong_row(raised, 2, axis, 249300),
+        wrong_row(raised, 2, axis, 248600), wrong_row(raised, 2, axis, -1050), wrong_row(raised, 0, axis, 172)]
+    yield "Halfway below nought: toward nought, and the axis of -0.5 units as 0.", [
+        wrong_row(low, 0, 3, -100067), wrong_row(low, 0, 2, -100172), wrong_row(close, 1, axis, 0)]
+    yield "34 and 35: not given, or with a count of rows; 35 before 34; 11 before both; 34 before 10.", [
+        wrong_reply(height, 0), altered(height, place_of(height, "p", 0), 3, 3), wrong_reply(grade, 0), wrong_reply(both, 35),
+        wrong_reply(grade, 34), wrong_reply(day([on(RAMP, 9000001, 0)], 20, 2), 11), wrong_reply(day([on(RAMP, 0, 81)], 20, 2), 11),
+        wrong_reply(day([changed(RAISED, 7, 5, 9, 9000001)], 20, 2), 34)]
+    yield "34 in cm: 5 mm above nought and below pass; a limit itself is refused.", [
+        wrong_reply(day([on(in_cm(RAMP), 5, 0)], 21, 2), 0), wrong_reply(day([on(in_cm(RAMP), -5, 0)], 21, 2), 0),
+        wrong_reply(day([on(in_cm(RAMP), -100000, 0)], 21, 2), 34), wrong_reply(day([on(RAMP, 9000000, 80)], 21, 2), 34),
+        wrong_reply(day([on(RAMP, -100000, -80)], 21, 2), 35)]
+    yield "34 and 35 on a relative card; marks 2 and 256 taken for relative; a number below 0 that passes, or counts without its minus.", [
+        wrong_reply(day([changed(RAMP, 9, 9000001)], 21, 2), 34), wrong_reply(day([changed(RAMP, 10, 81)], 21, 2), 35),
+        wrong_row(day([changed(RAISED, 8, 2)], 21, 2), 0, axis, 172), wrong_reply(day([changed(RAISED, 8, 256, 9, 9000001)], 21, 2), 0),
+        wrong_reply(day([changed(RAMP, 5, -1)], 21, 2), 0), wrong_reply(day([changed(RAMP, 3, -30000)], 21, 2), 0)]
 
 
 def main():
     if single(RAMP, 21) != (0, RAMP_ROWS):
         sys.exit("RAMP's rows are not those of document 01")
-    if [reckon.refusal(card) for card in REFUSED] != [1, 2, 3, 4, 5, 6, 8, 9, 10]:
+    if single(RAISED, 21) != (0, RAISED_ROWS):
+        sys.exit("the absolute RAMP's rows are not those of docs/ABSOLUTE-RAMP.md")
+    if [single(card, 0)[0] for card in REFUSED] != [1, 2, 3, 4, 5, 6, 8, 9, 10, 34, 35]:
         sys.exit("a card is not refused for its reason")
     for shown, days in {"right": right_days, "wrong": wrong_days}[sys.argv[1]]():
         print("# " + shown)

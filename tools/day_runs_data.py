@@ -8,13 +8,15 @@ A day is reckoned by tools/day_data.py, from document 02; nothing is shared with
 """
 import sys
 
-from day_data import RAMP, SEVEN, SHORT, fill_day
+from day_data import RAISED, RAMP, SEVEN, SHORT, body_of, changed, fill_day
 
-# RAMP with a row every 10 m: four rows, which 24 numbers are too few for.
-CLOSE = (5, 1, 30, 30000, 60, 600, 10000, 1)
-CARDS = ([RAMP, SHORT, CLOSE, RAMP] + [RAMP, SEVEN, SHORT] * 20)[:64]
+# RAMP with a row every 10 m, 100 m below the benchmark on the steepest grade: four rows, which 24 numbers are too few for.
+CLOSE = (*changed(RAMP, 6, 10000)[:8], 1, -100000, 80)
+# Absolute cards that are refused with 34 and 35.
+HIGH, STEEP = changed(RAISED, 9, 9000001), changed(RAISED, 10, -81)
+CARDS = ([RAMP, SHORT, CLOSE, RAISED] + [RAMP, SEVEN, SHORT, HIGH, STEEP, RAISED] * 10)[:64]
 # The place after the last curve of the list has a card of noughts.
-NOUGHTS = (0,) * 8
+NOUGHTS = (0,) * 11
 # How many cards, numbers of the table and numbers of the reply list are lent.
 RUNS = [
     (0, 63, 132), (0, 0, 0), (1, 21, 2), (1, 20, 2), (2, 63, 4), (3, 63, 7), (3, 63, 6), (3, 63, 5), (5, 63, 10), (5, 45, 12),
@@ -29,7 +31,7 @@ def book():
     for i in range(count):
         print("CARD%d %d" % (i, count + 2 + i))
     for card in CARDS:
-        print(*card)
+        print(*body_of(card))
 
 
 def printed(count, table_length, replies_length, differ=0):

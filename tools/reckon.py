@@ -2,11 +2,14 @@
 """The sheet of a book of cards, reckoned from documents 01 and 02 alone.
 
 Standard input: a book of cards. Standard output: the sheet that document 01,
-as Slip 1 of document 02 changes it, says the printer prints for it. Every
+as Slips 1 and 5 of document 02 change it, says the printer prints for it. Every
 height is an exact fraction, rounded once. Nothing is shared with the printer's
 code. What is quoted stands in document 01 where no Slip is named.
 
     python3 tools/reckon.py < book > sheet
+
+A card is the numbers of its body: eight where it is relative; ten, the last two
+its height and its grade, where it is absolute.
 """
 
 import re
@@ -38,8 +41,11 @@ NUMBER = rb"(?:0|[1-9][0-9]{0,6})"
 COUNT_LINE = re.compile(NUMBER)
 # "name, one blank, the line of its body. Names are 1 to 8 capitals or digits."
 CONTENTS_LINE = re.compile(rb"([A-Z0-9]{1,8}) (" + NUMBER + rb")")
-# "A body is the eight numbers with one blank between."
-BODY_LINE = re.compile(rb" ".join([NUMBER] * 8))
+# Slip 5: "with an optional minus before a number other than 0"
+SIGNED = rb"(?:0|-?[1-9][0-9]{0,6})"
+# "A body is the eight numbers with one blank between." Slip 5: "an absolute
+# body has ten numbers"
+BODY_LINE = re.compile(rb" ".join([NUMBER] * 8) + rb"(?: %s %s)?" % (SIGNED, SIGNED))
 
 
 # ---- the card ----
@@ -54,12 +60,13 @@ def least_length(radius):
 
 
 def refusal(card):
-    """The refusal, 1 to 6 and 8 to 10 "in rising order, first one met"; 0 if accepted.
+    """The refusal, "in rising order, first one met"; 0 if accepted.
 
     7 is left out: "Number 7 never occurs again" (Slip 1). 11 is left out: the
-    printer's table is "long enough for every card".
+    printer's table is "long enough for every card". 34 and 35 come "after 10
+    and before 11" (Slip 5).
     """
-    profile, terrain, R, L, v, W, step, unit = card
+    profile, terrain, R, L, v, W, step, unit = card[:8]
     if profile not in PROFILES:
         return 1
     h, _, p, _, _, least_R, level, mountain = PROFILES[profile]
@@ -80,6 +87,20 @@ def refusal(card):
         return 9
     if unit not in (1, 10):
         return 10
+    return datum_refusal(card[8:], unit)
+
+
+def datum_refusal(datum, unit):
+    """34 or 35 for the height and the grade of an absolute card; 0 where they pass, or there are none."""
+    if not datum:
+        return 0
+    height, grade = datum
+    # Slip 5: "outside -100,000 to 9,000,000 or not a whole number of units"
+    if not -100000 <= height <= 9000000 or height % unit:
+        return 34
+    # Slip 5: "a grade outside -80 to 80"
+    if not -80 <= grade <= 80:
+        return 35
     return 0
 
 
@@ -87,14 +108,14 @@ def refusal(card):
 
 def is_even(card):
     """Even "when h x (p + v) is at least 3 x L, else two-stage"."""
-    profile, _, _, L, v, _, _, _ = card
+    profile, _, _, L, v = card[:5]
     h, _, p = PROFILES[profile][:3]
     return h * (p + v) >= 3 * L
 
 
 def outer_slope(card, d):
     """The outer slope at station d, in permille."""
-    profile, _, _, L, v, _, _, _ = card
+    profile, _, _, L, v = card[:5]
     h, _, p = PROFILES[profile][:3]
     if is_even(card):
         # "a straight line from -p at 0 to v at L"
@@ -108,11 +129,22 @@ def outer_slope(card, d):
     return p + (v - p) * (d - joint) / (L - joint)
 
 
+def axis_at(card, d):
+    """The height of the axis at station d, in micrometres."""
+    if card[8:]:
+        # Slip 5: "Its axis then stands at that height plus grade times station"
+        height, grade = card[8:]
+        return 1000 * height + grade * d
+    h, c, p, q = PROFILES[card[0]][:4]
+    return c * q + h * p
+
+
 def lines_at(card, d):
     """Widening in mm, then the five heights in micrometres, all exact."""
-    profile, _, _, L, _, W, _, _ = card
+    profile, _, _, L, _, W = card[:6]
     h, c, p, q, m = PROFILES[profile][:5]
-    axis = c * q + h * p
+    # Slip 5: "the other lines keep their distance from the axis"
+    axis = axis_at(card, d)
     outer = outer_slope(card, d)
     outer_edge = axis + h * outer
     outer_brow = outer_edge + c * outer
@@ -187,6 +219,14 @@ def read_book(data):
     if len(lines) > 2 * n + 1 or rest:
         raise RefusedBook(27, 2 * n + 2)
     return list(zip(names, cards))
+
+
+# ---- the card list ----
+
+def listed(card):
+    """The numbers of a card in the list, after the place and the length of its name."""
+    # Slip 5: "then 0 or 1 for absolute, the height and the grade, both 0 where relative"
+    return (*card[:8], 1, *card[8:]) if card[8:] else (*card, 0, 0, 0)
 
 
 # ---- the sheet ----

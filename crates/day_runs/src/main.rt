@@ -5,6 +5,7 @@ use book::LEAST_LIST;
 use book::MOST_BYTES;
 use card::Card;
 use card::Reply;
+use card_list::CURVE_WIDTH;
 ghost use mathlib.Core.Path.{_≡_};
 ghost use Prim.Native.Nat.{_+_, _≤_, _<_};
 ghost use lib.ListN.{length};
@@ -12,6 +13,11 @@ ghost use Rattle.day.specs.Day.{dayReply};
 
 // One card more than a day may have.
 const CARDS_ROOM: usize = 65;
+
+// The numbers of a card, and the last curve that the list has room for, counted from 0.
+const CARD_NUMBERS: usize = 11;
+
+const LAST_CURVE: usize = 63;
 
 // Room for nine rows, and for two numbers a card and two more.
 const TABLE_ROOM: usize = 63;
@@ -35,33 +41,35 @@ fn rooms(cards: usize, table: usize, replies: usize) -> Lent {
     }
 }
 
-// The eight numbers of a card, in the order of the paper.
-fn body_of(card: Card) -> [u32; 8] {
-    [
-        card.profile,
-        card.terrain,
-        card.radius,
-        card.clothoid,
-        card.full_slope,
-        card.full_widening,
-        card.step,
-        card.unit,
-    ]
+// The eleven numbers of a curve's card, as they stand in the list; a curve past the list's end has noughts.
+fn body_of(list: &[i32; LEAST_LIST], curve: usize) -> [i32; CARD_NUMBERS] {
+    let mut body = [0i32; CARD_NUMBERS];
+    if curve > LAST_CURVE {
+        return body;
+    }
+    let at = CURVE_WIDTH * curve + 2;
+    let mut i: usize = 0;
+    while i < CARD_NUMBERS {
+        let number = list[at + i];
+        body[i] = number;
+        i += 1;
+    }
+    body
 }
 
-// The cards of the first curves as plain numbers; a curve past the list's end has noughts.
-fn bodies_of(list: &[u32; LEAST_LIST]) -> [[u32; 8]; CARDS_ROOM] {
-    let mut bodies = [[0u32; 8]; CARDS_ROOM];
+// The cards of the first curves as plain numbers.
+fn bodies_of(list: &[i32; LEAST_LIST]) -> [[i32; CARD_NUMBERS]; CARDS_ROOM] {
+    let mut bodies = [[0i32; CARD_NUMBERS]; CARDS_ROOM];
     let mut i: usize = 0;
     while i < CARDS_ROOM {
-        bodies[i] = body_of(card_list::card_of_curve(list, i as u32));
+        bodies[i] = body_of(list, i);
         i += 1;
     }
     bodies
 }
 
 // The same as structs.
-fn cards_of(list: &[u32; LEAST_LIST]) -> [Card; CARDS_ROOM] {
+fn cards_of(list: &[i32; LEAST_LIST]) -> [Card; CARDS_ROOM] {
     let mut cards = [card_list::card_of_curve(list, 0); CARDS_ROOM];
     let mut i: usize = 0;
     while i < CARDS_ROOM {
@@ -198,7 +206,12 @@ fn by_structs(
 }
 
 // The call over plain numbers likewise.
-fn by_numbers(bodies: &[[u32; 8]], lent: Lent, table: &mut [i32], replies: &mut [u32]) -> Reply
+fn by_numbers(
+    bodies: &[[i32; CARD_NUMBERS]],
+    lent: Lent,
+    table: &mut [i32],
+    replies: &mut [u32],
+) -> Reply
     requires { ⌜ lent .cards ≤ length (now bodies) ⌝ }
     requires { ⌜ lent .second ≤ length (now table) ⌝ }
     requires { ⌜ lent .replies ≤ length (now replies) ⌝ }
@@ -214,7 +227,7 @@ fn by_numbers(bodies: &[[u32; 8]], lent: Lent, table: &mut [i32], replies: &mut 
 }
 
 // One run by both calls.
-fn run_day(cards: [Card; CARDS_ROOM], bodies: &[[u32; 8]; CARDS_ROOM], lent: Lent)
+fn run_day(cards: [Card; CARDS_ROOM], bodies: &[[i32; CARD_NUMBERS]; CARDS_ROOM], lent: Lent)
     requires { ⌜ lent .cards ≤ 65 ⌝ }
     requires { ⌜ lent .table ≤ 63 ⌝ }
     requires { ⌜ lent .second ≤ 63 ⌝ }
@@ -236,7 +249,7 @@ fn run_day(cards: [Card; CARDS_ROOM], bodies: &[[u32; 8]; CARDS_ROOM], lent: Len
 }
 
 // Runs what is listed, where the rooms have so many numbers.
-fn run_listed(cards: [Card; CARDS_ROOM], bodies: &[[u32; 8]; CARDS_ROOM], lent: Lent) {
+fn run_listed(cards: [Card; CARDS_ROOM], bodies: &[[i32; CARD_NUMBERS]; CARDS_ROOM], lent: Lent) {
     if lent.cards > CARDS_ROOM {
         return;
     }
@@ -255,7 +268,7 @@ fn run_listed(cards: [Card; CARDS_ROOM], bodies: &[[u32; 8]; CARDS_ROOM], lent: 
 fn main() {
     let mut text = [0u8; MOST_BYTES];
     let got = io::read_full(0, &mut text);
-    let mut list = [0u32; LEAST_LIST];
+    let mut list = [0i32; LEAST_LIST];
     book::read_book(&text[..got], &mut list);
     let cards = cards_of(&list);
     let bodies = bodies_of(&list);

@@ -25,7 +25,7 @@ fn run_text(
     text: &[u8],
     numbers: &mut [i32; ROOM],
     book: &mut [u8; BOOK_ROOM],
-    list: &mut [u32; LIST_ROOM],
+    list: &mut [i32; LIST_ROOM],
 ) -> Run {
     let mut run = no_group();
     let mut from: usize = 0;
@@ -45,7 +45,7 @@ fn main() {
     let got = io::read_full(0, &mut text);
     let mut numbers = [0i32; ROOM];
     let mut book = [0u8; BOOK_ROOM];
-    let mut list = [0u32; LIST_ROOM];
+    let mut list = [0i32; LIST_ROOM];
     let run = run_text(&text[..got], &mut numbers, &mut book, &mut list);
     print_group(&text, run);
     let wrong_lines = run.wrong_lines;

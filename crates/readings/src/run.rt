@@ -8,6 +8,8 @@ use crate::list::run_book;
 use crate::list::stands_in_curve;
 use crate::table::ROOM;
 use crate::table::fill_with_marks;
+use crate::table::is_signed;
+use crate::table::number_of;
 use crate::table::run_card;
 use crate::table::stands;
 use crate::table::untouched_from;
@@ -21,6 +23,7 @@ use crate::text::is_number;
 use crate::text::read_line;
 use book::BookReply;
 use card::Card;
+use card::Datum;
 use card::Reply;
 ghost use Prim.Native.Nat.{_≤_, _<_};
 ghost use lib.ListN.{length};
@@ -148,7 +151,30 @@ fn all_whole(figures: [Figure; MOST_FIGURES]) -> bool {
     true
 }
 
-fn card_of(figures: [Figure; MOST_FIGURES]) -> Card {
+// Whether a line has a relative card's eight figures, or ten of an absolute one, whose last two may be below nought.
+fn is_card(line: Line) -> bool {
+    let figures = line.figures;
+    if !all_whole(figures) {
+        return false;
+    }
+    if line.count == 8 {
+        return true;
+    }
+    line.count == 10 && is_signed(figures[8]) && is_signed(figures[9])
+}
+
+// What the heights of a card count from: the benchmark where the line has ten figures.
+fn datum_of(line: Line) -> Datum {
+    if line.count == 8 {
+        return Datum::Relative;
+    }
+    let figures = line.figures;
+    let height = number_of(figures[8]);
+    let grade = number_of(figures[9]);
+    Datum::Absolute { height, grade }
+}
+
+fn card_of(figures: [Figure; MOST_FIGURES], datum: Datum) -> Card {
     Card {
         profile: figures[0].size,
         terrain: figures[1].size,
@@ -158,6 +184,7 @@ fn card_of(figures: [Figure; MOST_FIGURES]) -> Card {
         full_widening: figures[5].size,
         step: figures[6].size,
         unit: figures[7].size,
+        datum,
     }
 }
 
@@ -172,17 +199,18 @@ fn run_with_card(run: Run, card: Card, numbers: &mut [i32; ROOM]) -> Run {
     next
 }
 
-// `c` and a card's eight numbers: fills the table.
+// `c` and a card's eight numbers, or ten: fills the table.
 fn try_card(run: Run, line: Line, numbers: &mut [i32; ROOM]) -> Run {
-    let figures = line.figures;
-    if line.count != 8 || !all_whole(figures) {
+    if !is_card(line) {
         return run.not_understood();
     }
-    run_with_card(run, card_of(figures), numbers)
+    let figures = line.figures;
+    let datum = datum_of(line);
+    run_with_card(run, card_of(figures, datum), numbers)
 }
 
 // `h CURVE`: fills the table for the card of a curve in the list, curves counted from 0. No curve is past the last that was read.
-fn try_curve(run: Run, line: Line, numbers: &mut [i32; ROOM], list: &[u32; LIST_ROOM]) -> Run {
+fn try_curve(run: Run, line: Line, numbers: &mut [i32; ROOM], list: &[i32; LIST_ROOM]) -> Run {
     let figure = line.figures[0];
     let curve = figure.size;
     let count = run.book_reply.count;
@@ -261,7 +289,7 @@ fn compare_book(
     figures: [Figure; MOST_FIGURES],
     first: usize,
     book: &[u8; BOOK_ROOM],
-    list: &mut [u32; LIST_ROOM],
+    list: &mut [i32; LIST_ROOM],
 ) -> Run
     requires { ⌜ first < 8 ⌝ }
 {
@@ -284,7 +312,7 @@ fn compare_book(
 }
 
 // `o NUMBER COUNT LINE PLACE`: reads the book.
-fn read_whole(run: Run, line: Line, book: &[u8; BOOK_ROOM], list: &mut [u32; LIST_ROOM]) -> Run {
+fn read_whole(run: Run, line: Line, book: &[u8; BOOK_ROOM], list: &mut [i32; LIST_ROOM]) -> Run {
     if line.count != 4 || !run.has_book {
         return run.not_understood();
     }
@@ -293,7 +321,7 @@ fn read_whole(run: Run, line: Line, book: &[u8; BOOK_ROOM], list: &mut [u32; LIS
 }
 
 // `k BYTES NUMBER COUNT LINE PLACE`: reads the book's first bytes. A book has no more bytes than are written of it.
-fn read_start(run: Run, line: Line, book: &[u8; BOOK_ROOM], list: &mut [u32; LIST_ROOM]) -> Run {
+fn read_start(run: Run, line: Line, book: &[u8; BOOK_ROOM], list: &mut [i32; LIST_ROOM]) -> Run {
     let figures = line.figures;
     let bytes = figures[0];
     let size = bytes.size as usize;
@@ -303,17 +331,17 @@ fn read_start(run: Run, line: Line, book: &[u8; BOOK_ROOM], list: &mut [u32; LIS
     compare_book(run, size, figures, 1, book, list)
 }
 
-// `e CURVE` and a curve's ten numbers in the list, curves counted from 0.
-fn compare_curve(run: Run, line: Line, list: &[u32; LIST_ROOM]) -> Run {
+// `e CURVE` and a curve's thirteen numbers in the list, curves counted from 0.
+fn compare_curve(run: Run, line: Line, list: &[i32; LIST_ROOM]) -> Run {
     let figures = line.figures;
-    if line.count != 11 || !run.has_reading || !is_whole(figures[0]) {
+    if line.count != 14 || !run.has_reading || !is_whole(figures[0]) {
         return run.not_understood();
     }
     let curve = figures[0].size;
     let count = run.book_reply.count;
     let mut tally = run.tally;
     let mut column: usize = 0;
-    while column < 10 {
+    while column < 13 {
         let figure = figures[column + 1];
         tally = tally.with_figure(
             figure.printed,
@@ -333,7 +361,7 @@ fn run_figures(
     run: Run,
     numbers: &mut [i32; ROOM],
     book: &[u8; BOOK_ROOM],
-    list: &mut [u32; LIST_ROOM],
+    list: &mut [i32; LIST_ROOM],
 ) -> Run {
     match kind {
         b't' => lend(run, line),
@@ -357,7 +385,7 @@ pub(crate) fn run_line(
     run: Run,
     numbers: &mut [i32; ROOM],
     book: &mut [u8; BOOK_ROOM],
-    list: &mut [u32; LIST_ROOM],
+    list: &mut [i32; LIST_ROOM],
 ) -> Run
     requires { ⌜ (from ≤ end) × (end < length (now text)) ⌝ }
 {

@@ -46,8 +46,36 @@ pub(crate) fn untouched_from(numbers: &[i32; ROOM]) -> u32 {
     0
 }
 
-// Whether a number of the table is the figure.
-fn is_figure(number: i32, figure: Figure) -> bool {
+// Whether a signed number of 32 bits can be the figure.
+pub(crate) fn is_signed(figure: Figure) -> bool {
+    let size = figure.size;
+    if figure.negative {
+        return figure.printed && size <= 2147483648;
+    }
+    figure.printed && size <= 2147483647
+}
+
+// The number that a figure is; 0 where no signed number of 32 bits can be it.
+pub(crate) fn number_of(figure: Figure) -> i32 {
+    let size = figure.size;
+    if size == 0 {
+        return 0;
+    }
+    if size > 2147483648 {
+        return 0;
+    }
+    let less = (size - 1) as i32;
+    if figure.negative {
+        return -1 - less;
+    }
+    if size > 2147483647 {
+        return 0;
+    }
+    size as i32
+}
+
+// Whether a number of the table or of the list is the figure.
+pub(crate) fn is_figure(number: i32, figure: Figure) -> bool {
     let size = figure.size;
     if size > 2147483647 {
         return false;

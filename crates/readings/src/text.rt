@@ -3,7 +3,7 @@ ghost use Prim.Native.Nat.{_≤_};
 ghost use lib.ListN.{length};
 
 // The most figures that a line can have.
-pub(crate) const MOST_FIGURES: usize = 11;
+pub(crate) const MOST_FIGURES: usize = 14;
 
 // A figure of a line. Where the paper prints none the line has an `x`, and nothing is compared.
 pub(crate) struct Figure {
@@ -168,7 +168,7 @@ fn line_not_understood() -> Line {
     }
 }
 
-// The figures that follow a line's letter, at most eleven, with one blank before each.
+// The figures that follow a line's letter, at most fourteen, with one blank before each.
 pub(crate) fn read_line(line: &[u8]) -> Line {
     let mut figures = [not_printed(); MOST_FIGURES];
     let mut count: usize = 0;

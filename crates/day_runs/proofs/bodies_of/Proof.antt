@@ -14,12 +14,6 @@ abbrev μ-loop : tie.MeasureT-loop
 loop-holds : tie.Need-loop-holds Inv-loop μ-loop
 loop-holds c = search needs
 
-cast-card-of-curve : tie.Need-cast-card-of-curve Inv-loop μ-loop
-cast-card-of-curve c = search needs
-
-card-of-curve-requires : tie.Need-card-of-curve-requires Inv-loop μ-loop
-card-of-curve-requires c κs = search needs
-
 body-of-requires : tie.Need-body-of-requires Inv-loop μ-loop
 body-of-requires c κs = search needs
 
@@ -48,8 +42,6 @@ bodies-of-spec =
     Inv-loop
     μ-loop
     loop-holds
-    cast-card-of-curve
-    card-of-curve-requires
     body-of-requires
     mul-bodies
     array-set-from-bodies

@@ -6,10 +6,10 @@ use Rattle.readings.proofs.list.fill_list_with_marks.Statement.{stateme
 use Rattle.readings.proofs.list.fill_list_with_marks.Tie as tie
 
 abbrev Inv-loop : tie.InvT-loop
-Inv-loop list₀ place₀ list place = place ≤ 704
+Inv-loop list₀ place₀ list place = place ≤ 896
 
 abbrev μ-loop : tie.MeasureT-loop
-μ-loop list₀ place₀ list place = 704 - place
+μ-loop list₀ place₀ list place = 896 - place
 
 loop-holds : tie.Need-loop-holds Inv-loop μ-loop
 loop-holds c = search needs
@@ -17,11 +17,14 @@ loop-holds c = search needs
 mark-requires : tie.Need-mark-requires Inv-loop μ-loop
 mark-requires c κs = search needs
 
-mul-list : tie.Need-mul-list Inv-loop μ-loop
-mul-list c = search needs
+cast-number : tie.Need-cast-number Inv-loop μ-loop
+cast-number c = search needs
 
-element-write-list : tie.Need-element-write-list Inv-loop μ-loop
-element-write-list c = search needs
+mul-number : tie.Need-mul-number Inv-loop μ-loop
+mul-number c = search needs
+
+element-set-from-number : tie.Need-element-set-from-number Inv-loop μ-loop
+element-set-from-number c = search needs
 
 add-place : tie.Need-add-place Inv-loop μ-loop
 add-place c = search needs
@@ -43,8 +46,9 @@ fill-list-with-marks-spec =
     μ-loop
     loop-holds
     mark-requires
-    mul-list
-    element-write-list
+    cast-number
+    mul-number
+    element-set-from-number
     add-place
     loop-less
     loop-again

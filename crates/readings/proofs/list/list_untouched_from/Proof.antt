@@ -6,7 +6,7 @@ use Rattle.readings.proofs.list.list_untouched_from.Statement.{statemen
 use Rattle.readings.proofs.list.list_untouched_from.Tie as tie
 
 abbrev Inv-loop : tie.InvT-loop
-Inv-loop list place₀ place = place ≤ 704
+Inv-loop list place₀ place = place ≤ 896
 
 abbrev μ-loop : tie.MeasureT-loop
 μ-loop list place₀ place = place
@@ -25,6 +25,9 @@ element-copy-out-if1 c = search needs
 
 mark-requires : tie.Need-mark-requires Inv-loop μ-loop
 mark-requires c κs = search needs
+
+cast-if1 : tie.Need-cast-if1 Inv-loop μ-loop
+cast-if1 c = search needs
 
 cast-result : tie.Need-cast-result Inv-loop μ-loop
 cast-result c = search needs
@@ -52,6 +55,7 @@ list-untouched-from-spec =
     mul-if1
     element-copy-out-if1
     mark-requires
+    cast-if1
     cast-result
     returns
     loop-less

@@ -1,4 +1,4 @@
--- `readings::run::compare_curve` meets its contract. The loop goes through the ten numbers of a curve.
+-- `readings::run::compare_curve` meets its contract. The loop goes through the thirteen numbers of a curve.
 -- Assumes nothing.
 use borrow.Author.Needs.{needs}
 use Prim.Native.Nat.{_≤_, _-_}
@@ -6,10 +6,10 @@ use Rattle.readings.proofs.run.compare_curve.Statement.{statement}
 use Rattle.readings.proofs.run.compare_curve.Tie as tie
 
 abbrev Inv-loop : tie.InvT-loop
-Inv-loop run list figures curve count tally₀ column₀ tally column = column ≤ 10
+Inv-loop run list figures curve count tally₀ column₀ tally column = column ≤ 13
 
 abbrev μ-loop : tie.MeasureT-loop
-μ-loop run list figures curve count tally₀ column₀ tally column = 10 - column
+μ-loop run list figures curve count tally₀ column₀ tally column = 13 - column
 
 array-copy-out-is-whole : tie.Need-array-copy-out-is-whole Inv-loop μ-loop
 array-copy-out-is-whole c = search needs

@@ -7,7 +7,7 @@ use Rattle.readings.proofs.text.read_line.Statement.{statement}
 use Rattle.readings.proofs.text.read_line.Tie as tie
 
 abbrev Inv-loop : tie.InvT-loop
-Inv-loop line figures₀ count₀ at₀ figures count at = count ≤ 11
+Inv-loop line figures₀ count₀ at₀ figures count at = count ≤ 14
 
 abbrev μ-loop : tie.MeasureT-loop
 μ-loop line figures₀ count₀ at₀ figures count at = length line - at

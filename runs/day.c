@@ -11,8 +11,8 @@
  *   d CARDS TABLE REPLIES     begins a day: how many cards are lent, how many
  *                             numbers of the table and how many of the reply list
  *   z CARDS TABLE REPLIES     the same, and what has the length 0 is lent as NULL
- *   c 8 NUMBERS               the next card
- *   m TIMES 8 NUMBERS         the next cards, all alike
+ *   c 11 NUMBERS              the next card: eight, the mark, the height, the grade
+ *   m TIMES 11 NUMBERS        the next cards, all alike
  *   n NUMBER COUNT            runs the day: its reply
  *   p CARD NUMBER COUNT       that card's two numbers in the reply list
  *   r ROW 7 NUMBERS           the numbers of the table from place 7 x ROW on
@@ -31,13 +31,13 @@
 #define MOST_LENT (2 * PIPPINTERM_ENOUGH_TABLE) /* numbers of a table or of a reply list */
 #define GUARD PIPPINTERM_ENOUGH_TABLE           /* numbers around them that are not lent */
 #define ROOM (GUARD + MOST_LENT + GUARD)
-#define MOST_NUMBERS 9                          /* in a line of the text */
+#define MOST_NUMBERS (1 + PIPPINTERM_CARD_NUMBERS) /* in a line of the text */
 
 /* Each place of a room begins with a mark of its own, which no row and no reply has. */
 #define MARK 1000000000
 static uint32_t table_room[ROOM];
 static uint32_t replies_room[ROOM];
-static uint32_t cards[MOST_CARDS][PIPPINTERM_CARD_NUMBERS];
+static int32_t cards[MOST_CARDS][PIPPINTERM_CARD_NUMBERS];
 
 /* What the text has to go on with: a day, the cards and the reply of one, or its figures. */
 static enum { DAY, CARDS, FIGURES } due;
@@ -118,7 +118,10 @@ static int add_card(const long *numbers)
         return 0;
     }
     for (i = 0; i < PIPPINTERM_CARD_NUMBERS; i++) {
-        cards[cards_read][i] = (uint32_t)numbers[i];
+        if (numbers[i] < INT32_MIN || numbers[i] > INT32_MAX) {
+            return 0;
+        }
+        cards[cards_read][i] = (int32_t)numbers[i];
     }
     cards_read++;
     return 1;
@@ -140,7 +143,7 @@ static int run_day(const long *numbers)
         return 0;
     }
     number = pippinterm_fill_day(
-        is_null(cards_length) ? NULL : (const uint32_t (*)[PIPPINTERM_CARD_NUMBERS])cards,
+        is_null(cards_length) ? NULL : (const int32_t (*)[PIPPINTERM_CARD_NUMBERS])cards,
         (size_t)cards_length,
         is_null(table_length) ? NULL : (int32_t *)table_room + GUARD, (size_t)table_length,
         is_null(replies_length) ? NULL : replies_room + GUARD, (size_t)replies_length, &count);
@@ -213,8 +216,8 @@ static int follow(const char *text)
     switch (text[0]) {
     case 'd': return count == 3 && begin_day(numbers, 0);
     case 'z': return count == 3 && begin_day(numbers, 1);
-    case 'c': return count == 8 && add_card(numbers);
-    case 'm': return count == 9 && add_cards(numbers[0], numbers + 1);
+    case 'c': return count == PIPPINTERM_CARD_NUMBERS && add_card(numbers);
+    case 'm': return count == MOST_NUMBERS && add_cards(numbers[0], numbers + 1);
     case 'n': return count == 2 && run_day(numbers);
     case 'p': return count == 3 && compare_reply(numbers);
     case 'r': return count == 8 && compare_row(numbers);

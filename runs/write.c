@@ -11,7 +11,7 @@
  *   l NUMBERS NAMES             begins a list: how many of its numbers, and how
  *                               many of the names' bytes, are lent
  *   t BYTES                     the names' next bytes
- *   c 1 TO 10 NUMBERS           the list's next numbers
+ *   c 1 TO 13 NUMBERS           the list's next numbers
  *   b BYTES                     the next bytes of its book
  *   r ROOM NUMBER COUNT KEPT    runs the list with a buffer of so many bytes: its
  *                               reply, and the place from which on the buffer
@@ -32,7 +32,7 @@
 #include <stdlib.h>
 #include <string.h>
 
-#define MOST_NUMBERS (PIPPINTERM_LEAST_LIST + 20) /* so that lists too long can be lent */
+#define MOST_NUMBERS (PIPPINTERM_LEAST_LIST + 26) /* so that lists too long can be lent */
 #define MOST_BYTES PIPPINTERM_MOST_BYTES          /* of names, of a book and of a buffer */
 #define GUARD 300                                 /* numbers or bytes before and after them */
 #define LIST_ROOM (GUARD + MOST_NUMBERS + GUARD)
@@ -40,7 +40,7 @@
 
 /* What is lent for reading stands twice: the second is compared with afterwards. */
 #define MARK 1000000000
-static uint32_t list_room[LIST_ROOM], list_before[LIST_ROOM];
+static int32_t list_room[LIST_ROOM], list_before[LIST_ROOM];
 static uint8_t names_room[BYTES_ROOM], names_before[BYTES_ROOM];
 static uint8_t buffer_room[BYTES_ROOM];
 static uint8_t book[MOST_BYTES];
@@ -72,7 +72,7 @@ static void put_marks(void)
 {
     long i;
     for (i = 0; i < LIST_ROOM; i++) {
-        list_room[i] = (uint32_t)(MARK + i);
+        list_room[i] = (int32_t)(MARK + i);
     }
     for (i = 0; i < BYTES_ROOM; i++) {
         names_room[i] = (uint8_t)('A' + i % 26);
@@ -158,10 +158,10 @@ static int add_numbers(const long *numbers, int count)
         return 0;
     }
     for (i = 0; i < count; i++) {
-        if (!within(numbers[i], 4294967295)) {
+        if (numbers[i] < INT32_MIN || numbers[i] > INT32_MAX) {
             return 0;
         }
-        list_room[GUARD + list_read++] = (uint32_t)numbers[i];
+        list_room[GUARD + list_read++] = (int32_t)numbers[i];
     }
     return 1;
 }

@@ -2,16 +2,15 @@
 
 use crate::books::Book;
 use crate::card_case::{unlike_number, wrong_number};
+use crate::cards::Numbers;
 use crate::lent::{Lent, Unlike, ABOVE_16_BITS};
+use crate::lists::LISTED;
 use crate::seeded::Seeded;
 use std::hint::black_box;
 
-/// Numbers that a curve takes in the list.
-const LISTED: usize = 10;
-
-/// Lengths of the lent list; 640 and more mostly.
+/// Lengths of the lent list; 832 and more mostly. 640 numbers were enough for bodies of eight numbers.
 const LIST_LENGTHS: [usize; 20] = [
-    0, 1, 639, 640, 640, 640, 640, 640, 640, 640, 640, 640, 641, 641, 641, 641, 641, 1000, 1000,
+    0, 640, 831, 832, 832, 832, 832, 832, 832, 832, 832, 832, 833, 833, 833, 833, 833, 1000, 1000,
     1000,
 ];
 
@@ -20,10 +19,26 @@ const LONG_ONE_IN: usize = 1000;
 
 fn list_length(seeded: &mut Seeded) -> usize {
     if seeded.one_in(LONG_ONE_IN) {
-        ABOVE_16_BITS + seeded.below(640)
+        ABOVE_16_BITS + seeded.below(832)
     } else {
         seeded.pick(&LIST_LENGTHS)
     }
+}
+
+/// What one call is lent.
+pub struct Loan<'a> {
+    pub text: &'a [u8],
+    pub list: &'a mut [i32],
+    pub count: &'a mut u32,
+    pub line: &'a mut u32,
+}
+
+/// Reads the text into the list that it is lent, and gives the reply number.
+pub type Call = fn(&mut Loan) -> u32;
+
+/// The library's call.
+pub fn library(loan: &mut Loan) -> u32 {
+    calls::read_book(loan.text, loan.list, loan.count, loan.line)
 }
 
 /// All that the call answers and all that it could touch.
@@ -33,7 +48,7 @@ pub struct BookAnswer {
     pub count: Lent<u32>,
     pub line: Lent<u32>,
     pub text: Lent<u8>,
-    pub list: Lent<u32>,
+    pub list: Lent<i32>,
 }
 
 pub struct BookCase {
@@ -41,21 +56,26 @@ pub struct BookCase {
     pub came: BookAnswer,
 }
 
-/// Lends one text and one list of a seeded length to the paper's rules and to the library.
-pub fn run(book: &Book, seeded: &mut Seeded) -> BookCase {
+/// Lends one text and one list of a seeded length to the paper's rules and to the call.
+pub fn run(book: &Book, call: Call, seeded: &mut Seeded) -> BookCase {
+    with_list(book, list_length(seeded), call, seeded)
+}
+
+/// The same with a list of that length.
+pub fn with_list(book: &Book, length: usize, call: Call, seeded: &mut Seeded) -> BookCase {
     let before = BookAnswer {
         reply: 0,
         count: Lent::filled(1, seeded),
         line: Lent::filled(1, seeded),
         text: Lent::holding(&book.text, &book.beyond, seeded),
-        list: Lent::filled(list_length(seeded), seeded),
+        list: Lent::filled(length, seeded),
     };
     let mut came = before.clone();
     let mut due = before;
     by_the_paper(&book.text, &mut due);
     came.count.numbers_mut()[0] = wrong_number(due.count.numbers()[0], seeded);
     came.line.numbers_mut()[0] = wrong_number(due.line.numbers()[0], seeded);
-    by_the_library(&mut came);
+    by_the_call(call, &mut came);
     BookCase { due, came }
 }
 
@@ -66,11 +86,13 @@ fn by_the_paper(text: &[u8], due: &mut BookAnswer) {
     due.line.numbers_mut()[0] = reply.line;
 }
 
-fn by_the_library(came: &mut BookAnswer) {
-    let count = &mut came.count.numbers_mut()[0];
-    let line = &mut came.line.numbers_mut()[0];
-    let list = came.list.numbers_mut();
-    came.reply = calls::read_book(came.text.numbers(), list, count, line);
+fn by_the_call(call: Call, came: &mut BookAnswer) {
+    came.reply = call(&mut Loan {
+        text: came.text.numbers(),
+        list: came.list.numbers_mut(),
+        count: &mut came.count.numbers_mut()[0],
+        line: &mut came.line.numbers_mut()[0],
+    });
     // The buffers are looked at anew: nothing is held to be as it was before the call.
     black_box(came);
 }
@@ -96,9 +118,9 @@ impl BookAnswer {
     }
 
     /// The cards of the curves, as they stand in the list.
-    pub fn cards(&self) -> Vec<[u32; 8]> {
+    pub fn cards(&self) -> Vec<Numbers> {
         let curves = self.list.numbers()[..self.in_curves()].chunks_exact(LISTED);
-        let card = |curve: &[u32]| curve[2..].try_into().expect("eight numbers");
+        let card = |curve: &[i32]| curve[2..].try_into().expect("eleven numbers");
         curves.map(card).collect()
     }
 

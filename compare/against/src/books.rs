@@ -1,11 +1,11 @@
-//! Seeded books: valid ones, such with a fault or two, and random bytes.
+//! Seeded books with bodies of eight and of ten numbers: valid ones, such with a fault or two, and random bytes.
 
-use crate::cards;
+use crate::cards::{self, Numbers, CARD_NUMBERS, GRADE, HEIGHT, MARK};
 use crate::lent::ABOVE_16_BITS;
 use crate::seeded::Seeded;
 
 pub const CAPITALS_AND_DIGITS: &[u8] = b"ABCDEFGHIJKLMNOPQRSTUVWXYZ0123456789";
-const ALPHABET: &[u8] = b"0123456789  \n\nABZ";
+const ALPHABET: &[u8] = b"0123456789  \n\nABZ-";
 /// Bytes just outside what a name or a number may hold.
 pub const STRANGE: &[u8] = b"/:@[`az+-.,_\t\r\x00\x7f\x80\xff\n 0";
 const SIZES: [usize; 5] = [0, 8191, 8192, 8193, 20_000];
@@ -24,7 +24,7 @@ pub type Lines = Vec<Vec<u8>>;
 /// Makes a seeded book.
 type Make = fn(&mut Seeded) -> Book;
 
-pub const KINDS: [(&str, Make); 20] = [
+pub const KINDS: [(&str, Make); 23] = [
     ("valid", |s| book(lines(s))),
     ("byte changed", |s| bytes_faulted(s, change_byte)),
     ("byte added", |s| bytes_faulted(s, add_byte)),
@@ -38,6 +38,11 @@ pub const KINDS: [(&str, Make); 20] = [
     ("name malformed", |s| lines_faulted(s, malform_name)),
     ("wrong line", |s| lines_faulted(s, wrong_line)),
     ("number malformed", |s| lines_faulted(s, malform_number)),
+    ("last two malformed", |s| lines_faulted(s, malform_last_two)),
+    ("minus elsewhere", |s| lines_faulted(s, minus_elsewhere)),
+    ("other count of numbers", |s| {
+        lines_faulted(s, other_count_of_numbers)
+    }),
     ("count changed", |s| lines_faulted(s, change_count)),
     ("bytes after", bytes_after),
     ("two faults", two_faults),
@@ -138,17 +143,48 @@ fn body(seeded: &mut Seeded) -> Vec<u8> {
     body_line(&card(seeded))
 }
 
-/// Eight numbers: an accepted card, a damaged one, or numbers of 1 to 7 digits.
-pub fn card(seeded: &mut Seeded) -> cards::Numbers {
-    match seeded.below(4) {
+/// A card that a book can hold, of either kind: an accepted one, a damaged one, or numbers of 1 to 7 digits.
+pub fn card(seeded: &mut Seeded) -> Numbers {
+    let card = match seeded.below(4) {
         0 | 1 => cards::valid(seeded),
-        2 => cards::damaged(seeded).map(|number| number % 10_000_000),
-        _ => std::array::from_fn(|_| digits(seeded)),
+        2 => cards::damaged(seeded),
+        _ => all_digits(seeded),
+    };
+    in_seven_digits(card)
+}
+
+/// Numbers of 1 to 7 digits, the last two with a minus or without.
+fn all_digits(seeded: &mut Seeded) -> Numbers {
+    let mut card: Numbers = std::array::from_fn(|_| digits(seeded).cast_signed());
+    card[MARK] = seeded.signed(0, 1);
+    card[HEIGHT] *= seeded.pick(&[1, -1]);
+    card[GRADE] *= seeded.pick(&[1, -1]);
+    card
+}
+
+/// What of the numbers a body has room for; 0 and 0 beside mark 0, and 1 for every other mark.
+fn in_seven_digits(card: Numbers) -> Numbers {
+    let mut fit = card.map(|number| number % 10_000_000);
+    fit[..MARK].iter_mut().for_each(|n| *n = n.abs());
+    if card[MARK] == 0 {
+        fit[MARK..].fill(0);
+    } else {
+        fit[MARK] = 1;
+    }
+    fit
+}
+
+/// The words of a body: eight numbers where relative, ten where absolute.
+fn body_words(card: &Numbers) -> Lines {
+    let words = card.map(|number| number.to_string().into_bytes());
+    match card[MARK] {
+        0 => words[..MARK].to_vec(),
+        _ => [&words[..MARK], &words[HEIGHT..]].concat(),
     }
 }
 
-fn body_line(card: &cards::Numbers) -> Vec<u8> {
-    card.map(|number| number.to_string()).join(" ").into_bytes()
+fn body_line(card: &Numbers) -> Vec<u8> {
+    body_words(card).join(&b' ')
 }
 
 /// A number of 1 to 7 digits.
@@ -322,10 +358,14 @@ fn malform_number(lines: &mut Lines, seeded: &mut Seeded) {
     malform_number_at(lines, place, seeded);
 }
 
-/// The words of a line, split at its blanks; the faulted word is one of its numbers.
+/// The words of a line, split at its blanks.
+fn words_of(line: &[u8]) -> Lines {
+    line.split(|&b| b == b' ').map(<[u8]>::to_vec).collect()
+}
+
+/// The faulted word is one of the line's numbers.
 fn malform_number_at(lines: &mut Lines, place: usize, seeded: &mut Seeded) {
-    let line = &lines[place];
-    let mut words: Lines = line.split(|&b| b == b' ').map(<[u8]>::to_vec).collect();
+    let mut words = words_of(&lines[place]);
     let is_contents = words.len() == 2;
     let which = if is_contents && !seeded.one_in(4) {
         1
@@ -356,6 +396,80 @@ fn malform_word(word: &mut Vec<u8>, seeded: &mut Seeded) {
         7 => word.push(byte(seeded)),
         _ => word.insert(0, byte(seeded)),
     }
+}
+
+/// The place of some body.
+fn body_place(lines: &Lines, seeded: &mut Seeded) -> usize {
+    lines.len() - 1 - seeded.below(contents(lines))
+}
+
+/// Makes a body absolute, and its height or grade malformed; rarely right after all.
+fn malform_last_two(lines: &mut Lines, seeded: &mut Seeded) {
+    let mut card = card(seeded);
+    card[MARK] = 1;
+    let mut words = body_words(&card);
+    words[seeded.pick(&[8, 9])] = about_a_minus(seeded);
+    let place = body_place(lines, seeded);
+    lines[place] = words.join(&b' ');
+}
+
+/// A word for a height or a grade: a strange sign before it, a zero that leads, a digit too many.
+fn about_a_minus(seeded: &mut Seeded) -> Vec<u8> {
+    let digits = digits(seeded).max(1);
+    let word = match seeded.below(17) {
+        0 | 1 => "-0".to_string(),
+        2 => "-".to_string(),
+        3 => format!("+{digits}"),
+        4 => format!("-0{digits}"),
+        5 => format!("0{digits}"),
+        6 => format!("--{digits}"),
+        7 => format!("{digits}-"),
+        8 => format!("- {digits}"),
+        9 => "-10000000".to_string(),
+        10 => format!("-{}", 10_000_000 + u64::from(seeded.number())),
+        11 => (10_000_000 + digits).to_string(),
+        12 => return [b"-", &[seeded.pick(STRANGE)], digits.to_string().as_bytes()].concat(),
+        13 => "-9999999".to_string(),
+        14 => "0".to_string(),
+        15 => String::new(),
+        _ => format!("-{digits}"),
+    };
+    word.into_bytes()
+}
+
+/// A minus before one of the first eight numbers of a body, rarely before another word of the book.
+fn minus_elsewhere(lines: &mut Lines, seeded: &mut Seeded) {
+    let place = match seeded.below(8) {
+        0 => 0,
+        1 => contents_place(lines, seeded),
+        _ => body_place(lines, seeded),
+    };
+    let mut words = words_of(&lines[place]);
+    let which = seeded.below(words.len().min(8));
+    words[which].insert(0, b'-');
+    lines[place] = words.join(&b' ');
+}
+
+/// A body of nine numbers, of eleven as a card has them, of seven, of any other count, or with a blank too many.
+fn other_count_of_numbers(lines: &mut Lines, seeded: &mut Seeded) {
+    let mut card = card(seeded);
+    card[MARK] = seeded.pick(&[1, 1, 1, card[MARK]]);
+    let eleven: Lines = card.map(|n| n.to_string().into_bytes()).to_vec();
+    let ten = [&eleven[..MARK], &eleven[HEIGHT..]].concat();
+    let words = match seeded.below(15) {
+        0..=4 => ten[..9].to_vec(),
+        5 | 6 => eleven,
+        7 => ten[..7].to_vec(),
+        8 => [&ten[..], &ten[9..]].concat(),
+        9 => [&ten[..8], &ten[..]].concat(),
+        10 => ten[..seeded.below(7)].to_vec(),
+        11 => [&ten[..8], &[Vec::new()]].concat(),
+        12 => [&ten[..8], &[Vec::new()], &ten[8..]].concat(),
+        13 => [&ten[..9], &[Vec::new()], &ten[9..]].concat(),
+        _ => eleven[..9].to_vec(),
+    };
+    let place = body_place(lines, seeded);
+    lines[place] = words.join(&b' ');
 }
 
 fn change_count(lines: &mut Lines, seeded: &mut Seeded) {
@@ -439,19 +553,29 @@ fn above_16_bits(seeded: &mut Seeded) -> Book {
     book
 }
 
-/// A book of 4897 bytes, as long as one can be: 64 names of eight signs, and numbers of seven digits. Half of them with one byte at fault.
+/// A book of 6049 bytes, as long as one can be: 64 names of eight signs, and numbers of seven digits, the last two with a
+/// minus; or of 4897 bytes, with relative bodies only. Half of them with one byte at fault.
 fn longest(seeded: &mut Seeded) -> Book {
     let names = long_names(seeded);
     let mut lines = lines_with(&names, seeded);
+    let mark = seeded.pick(&[1, 1, 0]);
     for line in &mut lines[65..] {
-        let card: cards::Numbers = std::array::from_fn(|_| seeded.between(1_000_000, 9_999_999));
-        *line = body_line(&card);
+        *line = body_line(&long_card(mark, seeded));
     }
     let mut book = book(lines);
     if seeded.one_in(2) {
         seeded.pick(&[change_byte, add_byte, drop_byte])(&mut book.text, seeded);
     }
     book
+}
+
+/// Numbers of seven digits, the height and the grade below 0.
+pub fn long_card(mark: i32, seeded: &mut Seeded) -> Numbers {
+    let mut card = [0; CARD_NUMBERS].map(|_| seeded.signed(1_000_000, 9_999_999));
+    card[MARK] = mark;
+    card[HEIGHT] = -card[HEIGHT];
+    card[GRADE] = -card[GRADE];
+    card
 }
 
 /// 64 names of eight signs, none of them twins.

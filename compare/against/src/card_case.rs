@@ -1,6 +1,6 @@
 //! One card handed to the library, and all that it may touch compared with what is due.
 
-use crate::cards::Numbers;
+use crate::cards::{Numbers, CARD_NUMBERS, LENGTH, STEP};
 use crate::lent::{Lent, Unlike, ABOVE_16_BITS};
 use crate::seeded::Seeded;
 use std::hint::black_box;
@@ -28,13 +28,29 @@ const SHARES: [usize; 16] = [0, 1, 2, 2, 3, 3, 3, 3, 4, 4, 4, 5, 5, 5, 6, 6];
 const LONG: usize = 7;
 const LONG_ONE_IN: usize = 5000;
 
+/// What the two calls are lent.
+pub struct Loan<'a> {
+    pub card: &'a Numbers,
+    pub table: &'a mut [i32],
+    pub count: &'a mut u32,
+}
+
+/// Checks the card and fills the table, and gives the number of the check and of the reply.
+pub type Call = fn(&mut Loan) -> [u32; 2];
+
+/// The library's calls.
+pub fn library(loan: &mut Loan) -> [u32; 2] {
+    let check = calls::check_card(loan.card);
+    [check, calls::fill_table(loan.card, loan.table, loan.count)]
+}
+
 /// All that the calls answer and all that they could touch.
 #[derive(Clone, PartialEq)]
 pub struct CardAnswer {
     pub check: u32,
     pub reply: u32,
     pub count: Lent<u32>,
-    pub card: Lent<u32>,
+    pub card: Lent<i32>,
     pub table: Lent<i32>,
 }
 
@@ -45,29 +61,35 @@ pub struct CardCase {
     pub came: CardAnswer,
 }
 
-/// Lends one table of a seeded length to the paper's rules and to the library.
-pub fn run(card: Numbers, seeded: &mut Seeded) -> CardCase {
+/// Lends one table of a seeded length to the paper's rules and to the calls.
+pub fn run(card: Numbers, call: Call, seeded: &mut Seeded) -> CardCase {
     let class = if seeded.one_in(LONG_ONE_IN) {
         LONG
     } else {
         seeded.pick(&SHARES)
     };
-    let table_length = table_length(class, ROW * rows_due(&card, seeded), seeded);
+    let length = table_length(class, ROW * rows_due(&card, seeded), seeded);
+    let case = with_table(card, length, call, seeded);
+    CardCase { class, ..case }
+}
+
+/// The same with a table of that length.
+pub fn with_table(card: Numbers, length: usize, call: Call, seeded: &mut Seeded) -> CardCase {
     let before = CardAnswer {
         check: 0,
         reply: 0,
         count: Lent::filled(1, seeded),
         card: Lent::holding(&card, &[], seeded),
-        table: Lent::filled(table_length, seeded),
+        table: Lent::filled(length, seeded),
     };
     let mut came = before.clone();
     let mut due = before;
     by_the_paper(&card, &mut due);
     came.count.numbers_mut()[0] = wrong_number(due.count.numbers()[0], seeded);
-    by_the_library(&mut came);
+    by_the_call(call, &mut came);
     CardCase {
         card,
-        class,
+        class: 0,
         due,
         came,
     }
@@ -80,7 +102,7 @@ pub fn wrong_number(right: u32, seeded: &mut Seeded) -> u32 {
 
 /// Rows of the card by its L and step; for a card without sense any count of rows.
 fn rows_due(card: &Numbers, seeded: &mut Seeded) -> usize {
-    let (length, step) = (card[3], card[6]);
+    let (length, step) = (card[LENGTH].cast_unsigned(), card[STEP].cast_unsigned());
     if step > 0 && length / step <= 300 {
         length.div_ceil(step) as usize + 1
     } else {
@@ -108,11 +130,12 @@ fn by_the_paper(card: &Numbers, due: &mut CardAnswer) {
     due.count.numbers_mut()[0] = reply.count;
 }
 
-fn by_the_library(came: &mut CardAnswer) {
-    let card = came.card.numbers().try_into().expect("eight numbers");
-    came.check = calls::check_card(card);
-    let count = &mut came.count.numbers_mut()[0];
-    came.reply = calls::fill_table(card, came.table.numbers_mut(), count);
+fn by_the_call(call: Call, came: &mut CardAnswer) {
+    [came.check, came.reply] = call(&mut Loan {
+        card: came.card.numbers().try_into().expect("eleven numbers"),
+        table: came.table.numbers_mut(),
+        count: &mut came.count.numbers_mut()[0],
+    });
     // The buffers are looked at anew: nothing is held to be as it was before the calls.
     black_box(came);
 }
@@ -173,7 +196,8 @@ pub const ALTERATIONS: [(&str, Alter); 11] = [
         answer.count.alter(answer.count.guards_after(), seeded)
     }),
     ("card", |answer, seeded| {
-        answer.card.alter(answer.card.places(0..8), seeded)
+        let card = answer.card.places(0..CARD_NUMBERS);
+        answer.card.alter(card, seeded)
     }),
     ("guard of the card", |answer, seeded| {
         answer.card.alter(answer.card.guards_after(), seeded)

@@ -28,7 +28,7 @@ pub fn library(loan: &mut Loan) -> u32 {
 pub struct DayAnswer {
     pub reply: u32,
     pub count: Lent<u32>,
-    pub cards: Lent<u32>,
+    pub cards: Lent<i32>,
     pub table: Lent<i32>,
     pub replies: Lent<u32>,
 }

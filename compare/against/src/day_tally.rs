@@ -1,6 +1,6 @@
 //! What was met among the days: their replies, those of their cards by place, and sorts of days.
 
-use crate::cards::Numbers;
+use crate::cards::{Numbers, MARK};
 use crate::day_case::{self, DayAnswer, DayCase};
 use crate::days::{self, LONGEST_DAY, MOST_CARDS, REPLY, ROW};
 use crate::lent::ABOVE_16_BITS;
@@ -62,6 +62,13 @@ impl Seen<'_> {
         Some((first, last))
     }
 
+    /// Of each accepted card whether it is absolute.
+    fn absolute(&self) -> Vec<bool> {
+        let replied = self.cards.iter().zip(&self.numbers);
+        let accepted = replied.filter(|(_, number)| **number == 0);
+        accepted.map(|(card, _)| card[MARK] != 0).collect()
+    }
+
     /// Whether a card has the first number, and the same card once more, later, the other.
     fn twice(&self, first: u32, other: u32) -> bool {
         let replied: Vec<_> = self.cards.iter().zip(&self.numbers).collect();
@@ -77,7 +84,7 @@ impl Seen<'_> {
 type IsOfSort = fn(&Seen) -> bool;
 
 /// Sorts of days, by what is lent and what is due; a day can be of more than one.
-pub const SORTS: [(&str, IsOfSort); 28] = [
+pub const SORTS: [(&str, IsOfSort); 32] = [
     ("no cards", |day| day.cards.is_empty()),
     ("nothing lent", |day| {
         day.cards.is_empty() && day.table + day.replies == 0
@@ -149,6 +156,20 @@ pub const SORTS: [(&str, IsOfSort); 28] = [
     }),
     ("a card twice", |day| day.twice(0, 0)),
     ("a card again, now 11", |day| day.twice(0, 11)),
+    ("relative cards only", |day| {
+        let absolute = day.absolute();
+        absolute.len() > 1 && !absolute.contains(&true)
+    }),
+    ("absolute cards only", |day| {
+        let absolute = day.absolute();
+        absolute.len() > 1 && !absolute.contains(&false)
+    }),
+    ("relative after absolute", |day| {
+        day.absolute().windows(2).any(|two| two == [true, false])
+    }),
+    ("absolute after relative", |day| {
+        day.absolute().windows(2).any(|two| two == [false, true])
+    }),
 ];
 
 #[derive(Default)]
@@ -229,11 +250,13 @@ mod tests {
     use crate::day_case::{library, run, DayCase};
     use crate::days::Day;
     use crate::seeded::Seeded;
+    use paper::card::{absolute, relative};
 
-    const RAMP: Numbers = [5, 1, 30, 30_000, 60, 600, 20_000, 1];
+    const RAMP: Numbers = relative([5, 1, 30, 30_000, 60, 600, 20_000, 1]);
+    const HIGH_RAMP: Numbers = absolute([5, 1, 30, 30_000, 60, 600, 20_000, 1], 250_000, -35);
     /// 7 rows.
-    const LONG: Numbers = [2, 1, 200, 110_000, 30, 0, 20_000, 1];
-    const REFUSED: Numbers = [0; 8];
+    const LONG: Numbers = relative([2, 1, 200, 110_000, 30, 0, 20_000, 1]);
+    const REFUSED: Numbers = [0; 11];
 
     fn case(cards: &[Numbers], table_length: usize, replies_length: usize) -> DayCase {
         let day = Day {
@@ -279,7 +302,7 @@ mod tests {
         let short = "2 to 63 cards; reply list longer; table one number short; \
                      refused at the end; a card again, now 11";
         assert_eq!(sorts(&[RAMP, RAMP], 41, 5), short);
-        let longest = [2, 1, 200, 300_000, 30, 0, 1000, 1];
+        let longest = relative([2, 1, 200, 300_000, 30, 0, 1000, 1]);
         let longest = sorts(&[longest; 64], 64 * 2107, 128);
         assert!(longest.contains("longest table there is"), "{longest}");
     }
@@ -289,10 +312,25 @@ mod tests {
         let start = "2 to 63 cards; reply list exactly due; table longer; refused at the start";
         assert_eq!(sorts(&[REFUSED, RAMP], 30, 4), start);
         let middle = "2 to 63 cards; reply list exactly due; accepted after 11; \
-                      refused in the middle; a card twice";
+                      refused in the middle; a card twice; relative cards only";
         assert_eq!(sorts(&[RAMP, LONG, RAMP], 21 + 48, 6), middle);
         let end = "2 to 63 cards; reply list exactly due; table exactly due; refused at the end";
         assert_eq!(sorts(&[RAMP, REFUSED], 21, 4), end);
+    }
+
+    #[test]
+    fn sorts_by_the_heights() {
+        let kinds = |cards: &[Numbers]| {
+            let sorts = sorts(cards, 100, 2 * cards.len());
+            let (_, kinds) = sorts.split_once("all accepted").expect("accepted");
+            kinds.trim_start_matches("; ").to_string()
+        };
+        assert_eq!(kinds(&[RAMP, LONG]), "relative cards only");
+        assert_eq!(kinds(&[HIGH_RAMP]), "");
+        let high = absolute([2, 1, 200, 110_000, 30, 0, 20_000, 1], 0, 0);
+        assert_eq!(kinds(&[HIGH_RAMP, high]), "absolute cards only");
+        assert_eq!(kinds(&[HIGH_RAMP, RAMP]), "relative after absolute");
+        assert_eq!(kinds(&[RAMP, HIGH_RAMP]), "absolute after relative");
     }
 
     /// In how many days a number is counted as unlisted, when this is done to the answers for a day with RAMP.

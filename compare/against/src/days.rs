@@ -15,7 +15,7 @@ pub const MOST_CARDS: usize = 64;
 pub const LONGEST_CARD: usize = ROW * 301;
 pub const LONGEST_DAY: usize = MOST_CARDS * LONGEST_CARD;
 /// The numbers with which a card is refused for its own sake.
-const OWN_REASONS: [u32; 9] = [1, 2, 3, 4, 5, 6, 8, 9, 10];
+const OWN_REASONS: [u32; 11] = [1, 2, 3, 4, 5, 6, 8, 9, 10, 34, 35];
 /// One full list in so many takes the longest table.
 const LONGEST_ONE_IN: usize = 20;
 /// One list of too many cards in so many has more than 65,536.
@@ -111,7 +111,7 @@ fn twice(seeded: &mut Seeded) -> Vec<Numbers> {
 /// Cards with steps of 1 m, then such with the greatest step: some of them fit where the longer ones did not.
 fn long_before_short(seeded: &mut Seeded) -> Vec<Numbers> {
     let step = |mut card: Numbers, step| {
-        card[cards::STEP] = step;
+        card[cards::STEP] = u32::cast_signed(step);
         card
     };
     let long = accepted(seeded.between(1, 2) as usize, seeded);
@@ -137,8 +137,8 @@ fn full_list(seeded: &mut Seeded) -> Vec<Numbers> {
     }
     let mut cards = accepted(MOST_CARDS, seeded);
     for card in &mut cards {
-        card[cards::LENGTH] = GREATEST_LENGTH;
-        card[cards::STEP] = LEAST_STEP;
+        card[cards::LENGTH] = GREATEST_LENGTH.cast_signed();
+        card[cards::STEP] = LEAST_STEP.cast_signed();
     }
     cards
 }

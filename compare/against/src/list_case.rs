@@ -9,7 +9,7 @@ use std::hint::black_box;
 
 /// What one call is lent.
 pub struct Loan<'a> {
-    pub list: &'a [u32],
+    pub list: &'a [i32],
     pub names: &'a [u8],
     pub buffer: &'a mut [u8],
     pub count: &'a mut u32,
@@ -28,7 +28,7 @@ pub fn library(loan: &mut Loan) -> u32 {
 pub struct ListAnswer {
     pub reply: u32,
     pub count: Lent<u32>,
-    pub list: Lent<u32>,
+    pub list: Lent<i32>,
     pub names: Lent<u8>,
     pub buffer: Lent<u8>,
 }
@@ -40,7 +40,7 @@ pub struct ListCase {
 
 /// Lends one list and a buffer of a seeded length to the paper's rules and to the call.
 pub fn run(list: &List, call: Call, seeded: &mut Seeded) -> ListCase {
-    let length = buffer_length(book_size(list), seeded);
+    let length = buffer_length(book_size(&list.numbers), seeded);
     with_buffer(list, length, call, seeded)
 }
 
@@ -51,7 +51,7 @@ pub fn with_buffer(list: &List, length: usize, call: Call, seeded: &mut Seeded) 
         count: Lent::filled(1, seeded),
         list: Lent::holding(&list.numbers, &list.beyond_numbers, seeded),
         names: Lent::holding(&list.names, &list.beyond_names, seeded),
-        buffer: Lent::filled_before(length, book_size(list), seeded),
+        buffer: Lent::filled_before(length, book_size(&list.numbers), seeded),
     };
     let mut came = before.clone();
     let mut due = before;

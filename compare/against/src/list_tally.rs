@@ -2,23 +2,60 @@
 
 use crate::lent::ABOVE_16_BITS;
 use crate::list_case::{self, ListAnswer, ListCase};
-use crate::lists::{self, Curve, GREATEST_BOOK, LISTED, MOST_CURVES};
-use crate::read_back::was_read;
+use crate::lists::{self, body_numbers, book_size, Curve, CARD, GRADE, HEIGHT, LISTED, MARK};
+use crate::lists::{GREATEST_BOOK, MOST_CURVES};
+use crate::read_back::{name_of, was_read};
 use crate::tally::{add_altered, add_numbers, Altered};
+use paper::check_card;
 use paper::writer::GREATEST_NUMBER;
 
 pub const LIST_KINDS: usize = lists::KINDS.len();
 pub const LIST_REPLIES: [u32; 4] = [0, 31, 32, 33];
 const MOST_NUMBERS: usize = LISTED * MOST_CURVES;
 
+/// Why a number of a curve cannot be written.
+#[derive(Clone, Copy, PartialEq)]
+enum Unfit {
+    Long,
+    Below0,
+    Mark,
+    HeightBeside0,
+    GradeBeside0,
+    LongHeight,
+    LongGrade,
+}
+
+/// Every number of a curve that cannot be written.
+fn unfit(curve: &Curve) -> Vec<Unfit> {
+    let [height, grade] = [curve[HEIGHT], curve[GRADE]];
+    let is_long = |number: i32| number.unsigned_abs() > GREATEST_NUMBER.unsigned_abs();
+    let of_eight = curve[CARD..MARK].iter().filter_map(|&number| match number {
+        ..0 => Some(Unfit::Below0),
+        _ => is_long(number).then_some(Unfit::Long),
+    });
+    let of_datum = match curve[MARK] {
+        0 => [
+            (height != 0).then_some(Unfit::HeightBeside0),
+            (grade != 0).then_some(Unfit::GradeBeside0),
+        ],
+        1 => [
+            is_long(height).then_some(Unfit::LongHeight),
+            is_long(grade).then_some(Unfit::LongGrade),
+        ],
+        _ => [Some(Unfit::Mark), None],
+    };
+    of_eight.chain(of_datum.into_iter().flatten()).collect()
+}
+
 /// A list as its sorts see it: what is lent, and what is due.
 pub struct Seen<'a> {
-    list: &'a [u32],
+    list: &'a [i32],
     names: &'a [u8],
     buffer: usize,
     reply: u32,
     /// Bytes of its book, were the buffer long enough; 0 for a list that is refused all the same.
     size: usize,
+    unfit: Vec<Unfit>,
     /// Whether the names and the numbers call for 31, 32 and 33, each looked at by itself.
     faults: [bool; 3],
     was_read: bool,
@@ -33,13 +70,15 @@ impl<'a> Seen<'a> {
             buffer: due.buffer.numbers().len(),
             reply: due.reply,
             size: paper::write_book(list, names, &mut [0; GREATEST_BOOK]).count as usize,
+            unfit: Vec::new(),
             faults: [false; 3],
             was_read: was_read(list, names),
         };
         let curves = seen.curves();
+        seen.unfit = curves.iter().flat_map(unfit).collect();
         let wrong_name = curves.iter().any(|curve| !seen.is_right_name(curve));
-        let long_number = seen.any_number(|n| n > GREATEST_NUMBER);
-        seen.faults = [wrong_name, seen.has_twins(|_, _| true), long_number];
+        let has_twins = seen.has_twins(|_, _| true);
+        seen.faults = [wrong_name, has_twins, !seen.unfit.is_empty()];
         seen
     }
 
@@ -57,14 +96,36 @@ impl<'a> Seen<'a> {
         self.curves().iter().any(is_so)
     }
 
-    fn any_number(&self, is_so: impl Fn(u32) -> bool) -> bool {
-        self.any_curve(|curve| curve[2..].iter().any(|&number| is_so(number)))
+    /// Whether this holds of a number that a body would have.
+    fn any_number(&self, is_so: impl Fn(i32) -> bool) -> bool {
+        self.any_curve(|curve| body_numbers(curve).any(&is_so))
     }
 
     /// The bytes of a name that lies within.
     fn name(&self, curve: &Curve) -> Option<&'a [u8]> {
-        let (place, size) = (curve[0] as usize, curve[1] as usize);
-        self.names.get(place..place + size)
+        name_of(curve, self.names)
+    }
+
+    /// Accepted, with a card that gets this number.
+    fn any_card_with(&self, number: u32) -> bool {
+        let card = |curve: &Curve| curve[CARD..].try_into().expect("eleven numbers");
+        self.reply == 0 && self.any_curve(|curve| check_card(&card(curve)) == number)
+    }
+
+    /// How many curves of an accepted list are absolute; none of a list that is refused.
+    fn absolute(&self) -> Option<usize> {
+        let absolute = self.curves().iter().filter(|curve| curve[MARK] == 1);
+        (self.reply == 0).then(|| absolute.count())
+    }
+
+    /// Refused for these numbers of the list and nothing else: there would be room for the book.
+    fn only(&self, unfit: &[Unfit]) -> bool {
+        self.reply == 33 && self.unfit == unfit && self.buffer >= book_size(self.list)
+    }
+
+    /// A mark that is neither 0 nor 1, of which this is so.
+    fn any_wrong_mark(&self, is_so: fn(i32) -> bool) -> bool {
+        self.only(&[Unfit::Mark]) && self.any_curve(|curve| curve[MARK] != 1 && is_so(curve[MARK]))
     }
 
     fn is_right_name(&self, curve: &Curve) -> bool {
@@ -94,7 +155,7 @@ impl<'a> Seen<'a> {
         self.reply == 0 && self.any_pair(|one, other| names(one, other).is_some_and(either))
     }
 
-    /// Where the name ends, measured from the last byte there is; place and size may exceed 32 bits.
+    /// Where the name ends, measured from the last byte there is; place and size may exceed 31 bits.
     fn past_the_end(&self, curve: &Curve) -> i64 {
         i64::from(curve[0]) + i64::from(curve[1]) - self.names.len() as i64
     }
@@ -108,13 +169,17 @@ impl<'a> Seen<'a> {
 type IsOfSort = fn(&Seen) -> bool;
 
 /// Sorts of lists, by what is lent and what is due; a list can be of more than one.
-pub const SORTS: [(&str, IsOfSort); 46] = [
+pub const SORTS: [(&str, IsOfSort); 73] = [
     ("no numbers", |list| list.list.is_empty()),
-    ("1 to 9 numbers", |list| {
+    ("1 to 12 numbers", |list| {
         (1..LISTED).contains(&list.list.len())
     }),
     ("some numbers over", |list| {
         list.list.len() > LISTED && list.list.len() % LISTED > 0
+    }),
+    ("ten numbers a curve", |list| {
+        let length = list.list.len();
+        length > 0 && length.is_multiple_of(10) && !length.is_multiple_of(LISTED)
     }),
     ("1 curve", |list| list.list.len() == LISTED),
     ("64 curves", |list| list.list.len() == MOST_NUMBERS),
@@ -158,11 +223,22 @@ pub const SORTS: [(&str, IsOfSort); 46] = [
         list.any_curve(|curve| curve[1] <= 8 && list.past_the_end(curve) == 1)
     }),
     ("name from the end on", |list| {
-        let end = list.names.len() as u32;
+        let end = list.names.len() as i32;
         list.any_curve(|curve| curve[0] == end && curve[1] > 0)
     }),
-    ("name above 32 bits", |list| {
-        list.any_curve(|curve| curve[0].checked_add(curve[1]).is_none())
+    ("name above 31 bits", |list| {
+        list.any_curve(|curve| curve[0] > 0 && curve[0].checked_add(curve[1]).is_none())
+    }),
+    ("place below 0", |list| {
+        list.any_curve(|curve| curve[0] < 0 && (1..=8).contains(&curve[1]))
+    }),
+    ("place below 0, end within", |list| {
+        let ends_within = |curve: &Curve| (1..=8).contains(&(curve[0] + curve[1]));
+        list.any_curve(|curve| (-8..0).contains(&curve[0]) && curve[1] <= 8 && ends_within(curve))
+    }),
+    ("size below 0", |list| list.any_curve(|curve| curve[1] < 0)),
+    ("size right without its minus", |list| {
+        list.any_curve(|curve| (-8..0).contains(&curve[1]))
     }),
     ("twins at one place", |list| {
         list.reply == 32 && list.has_twins(|one, other| one[0] == other[0])
@@ -188,8 +264,63 @@ pub const SORTS: [(&str, IsOfSort); 46] = [
     ("number 10000000", |list| {
         list.any_number(|n| n == GREATEST_NUMBER + 1)
     }),
-    ("number 4294967295", |list| {
-        list.any_number(|n| n == u32::MAX)
+    ("number 2147483647", |list| {
+        list.any_number(|n| n == i32::MAX)
+    }),
+    ("number -1", |list| {
+        list.reply == 0 && list.any_number(|n| n == -1)
+    }),
+    ("number -9999999", |list| {
+        list.reply == 0 && list.any_number(|n| n == -GREATEST_NUMBER)
+    }),
+    ("number -10000000", |list| {
+        list.any_number(|n| n == -GREATEST_NUMBER - 1)
+    }),
+    ("number -2147483648", |list| {
+        list.any_number(|n| n == i32::MIN)
+    }),
+    ("relative curves only", |list| list.absolute() == Some(0)),
+    ("absolute curves only", |list| {
+        list.absolute() == Some(list.curves().len())
+    }),
+    ("curves of both kinds", |list| {
+        let both = 1..list.curves().len();
+        list.absolute().is_some_and(|count| both.contains(&count))
+    }),
+    ("absolute with 0 and 0", |list| {
+        list.reply == 0 && list.any_curve(|curve| curve[MARK..] == [1, 0, 0])
+    }),
+    ("card that 34 refuses", |list| list.any_card_with(34)),
+    ("card that 35 refuses", |list| list.any_card_with(35)),
+    ("33 by a long number alone", |list| {
+        list.only(&[Unfit::Long])
+    }),
+    ("33 by one below 0 alone", |list| {
+        list.only(&[Unfit::Below0])
+    }),
+    ("33 by a mark alone", |list| list.only(&[Unfit::Mark])),
+    ("33 by a height beside 0 alone", |list| {
+        list.only(&[Unfit::HeightBeside0])
+    }),
+    ("33 by a grade beside 0 alone", |list| {
+        list.only(&[Unfit::GradeBeside0])
+    }),
+    ("33 by both beside mark 0", |list| {
+        list.only(&[Unfit::HeightBeside0, Unfit::GradeBeside0])
+    }),
+    ("33 by a long height alone", |list| {
+        list.only(&[Unfit::LongHeight])
+    }),
+    ("33 by a long grade alone", |list| {
+        list.only(&[Unfit::LongGrade])
+    }),
+    ("mark 2", |list| list.any_wrong_mark(|mark| mark == 2)),
+    ("mark below 0", |list| list.any_wrong_mark(|mark| mark < 0)),
+    ("mark of which 8 bits are right", |list| {
+        list.any_wrong_mark(|mark| mark != 0 && matches!(mark & 255, 0 | 1))
+    }),
+    ("mark of which 16 bits are right", |list| {
+        list.any_wrong_mark(|mark| mark != 0 && matches!(mark & 65_535, 0 | 1))
     }),
     ("31 before 32", |list| list.faults == [true, true, false]),
     ("31 before 33", |list| list.faults == [true, false, true]),
@@ -291,26 +422,34 @@ mod tests {
     use crate::list_case::{library, with_buffer};
     use crate::lists::{Curve, List};
     use crate::seeded::Seeded;
+    use paper::card::relative;
 
     const NAMES: &[u8] = b"RAMP1234567a";
-    const CARD: [u32; 8] = [5, 1, 30, 30_000, 60, 600, 20_000, 1];
+    const RAMP: [i32; 8] = [5, 1, 30, 30_000, 60, 600, 20_000, 1];
 
-    fn curve(place: u32, size: u32) -> Curve {
-        let mut curve = [place; 10];
+    fn curve(place: i32, size: i32) -> Curve {
+        let mut curve = [place; 13];
         curve[1] = size;
-        curve[2..].copy_from_slice(&CARD);
+        curve[2..].copy_from_slice(&relative(RAMP));
         curve
     }
 
     /// A curve with that number in place of its unit.
-    fn numbered(place: u32, size: u32, number: u32) -> Curve {
+    fn numbered(place: i32, size: i32, number: i32) -> Curve {
         let mut curve = curve(place, size);
         curve[9] = number;
         curve
     }
 
+    /// A curve with that mark, height and grade.
+    fn with_datum(mark: i32, height: i32, grade: i32) -> Curve {
+        let mut curve = curve(0, 4);
+        curve[10..].copy_from_slice(&[mark, height, grade]);
+        curve
+    }
+
     /// The sorts of the list, one after another.
-    fn sorts(numbers: &[u32], names: &[u8], buffer_length: usize) -> String {
+    fn sorts(numbers: &[i32], names: &[u8], buffer_length: usize) -> String {
         let list = List {
             numbers: numbers.to_vec(),
             names: names.to_vec(),
@@ -331,42 +470,48 @@ mod tests {
 
     #[test]
     fn sorts_by_the_length() {
-        let many = [curve(0, 4); 6600];
+        let many = vec![curve(0, 4); 6600];
         let many = many.as_flattened();
         assert_eq!(sorts(&[], NAMES, 50), "no numbers");
         let nothing = "no numbers; no bytes for names; 31 without a buffer";
         assert_eq!(sorts(&[], &[], 0), nothing);
-        assert_eq!(sorts(&many[..9], NAMES, 50), "1 to 9 numbers");
-        assert_eq!(sorts(&many[..11], NAMES, 50), "some numbers over");
+        assert_eq!(sorts(&many[..12], NAMES, 50), "1 to 12 numbers");
+        assert_eq!(sorts(&many[..14], NAMES, 50), "some numbers over");
+        let ten = "some numbers over; ten numbers a curve";
+        assert_eq!(sorts(&many[..20], NAMES, 50), ten);
         assert_eq!(
-            sorts(&many[..640], NAMES, 50),
+            sorts(&many[..832], NAMES, 50),
             "64 curves; twins at one place"
         );
-        assert_eq!(sorts(&many[..650], NAMES, 50), "65 curves");
-        assert_eq!(sorts(&many[..660], NAMES, 50), "more curves");
+        assert_eq!(sorts(&many[..845], NAMES, 50), "65 curves");
+        assert_eq!(sorts(&many[..858], NAMES, 50), "more curves");
         let above = "some numbers over; 65536 numbers and more";
-        assert_eq!(sorts(&many[..65_546], NAMES, 50), above);
+        assert_eq!(sorts(&many[..65_549], NAMES, 50), above);
     }
 
     #[test]
     fn sorts_by_the_buffer() {
         let ramp = [curve(0, 4)];
-        assert_eq!(of_curves(&ramp, 37), "1 curve; buffer exactly due");
-        assert_eq!(of_curves(&ramp, 38), "1 curve; buffer one byte longer");
-        assert_eq!(of_curves(&ramp, 39), "1 curve; buffer longer");
-        let above = "1 curve; buffer longer; 65536 bytes of buffer and more";
-        assert_eq!(of_curves(&ramp, 65_536), above);
+        let of_ramp = |buffer_length, due: &str| {
+            let due = format!("1 curve; relative curves only; {due}");
+            assert_eq!(of_curves(&ramp, buffer_length), due);
+        };
+        of_ramp(37, "buffer exactly due");
+        of_ramp(38, "buffer one byte longer");
+        of_ramp(39, "buffer longer");
+        of_ramp(65_536, "buffer longer; 65536 bytes of buffer and more");
         assert_eq!(of_curves(&ramp, 36), "1 curve; 33 by one byte");
         assert_eq!(of_curves(&ramp, 0), "1 curve; 33 without a buffer");
         let book = b"1\nRAMP 3\n5 1 30 30000 60 600 20000 1\n";
-        let read = "1 curve; buffer exactly due; written back as it was read";
+        let read = "1 curve; relative curves only; buffer exactly due; written back as it was read";
         assert_eq!(sorts(&curve(2, 4), book, 37), read);
     }
 
     #[test]
     fn sorts_by_one_name() {
         let one = |place, size| of_curves(&[curve(place, size)], 50);
-        assert_eq!(one(3, 8), "1 curve; name of 8 bytes; buffer longer");
+        let eight = "1 curve; name of 8 bytes; relative curves only; buffer longer";
+        assert_eq!(one(3, 8), eight);
         assert_eq!(one(3, 0), "1 curve; name without bytes");
         assert_eq!(one(2, 9), "1 curve; name of 9 bytes");
         assert_eq!(one(1, 10), "1 curve; name of more bytes");
@@ -375,8 +520,18 @@ mod tests {
         assert_eq!(one(11, 2), "1 curve; name one byte past the end");
         let from_the_end = "1 curve; name one byte past the end; name from the end on";
         assert_eq!(one(12, 1), from_the_end);
-        assert_eq!(one(u32::MAX, 1), "1 curve; name above 32 bits");
-        let last = "1 curve; name up to the last byte; buffer longer";
+        assert_eq!(one(i32::MAX, 1), "1 curve; name above 31 bits");
+        assert_eq!(one(-20, 4), "1 curve; place below 0");
+        assert_eq!(
+            one(-1, 4),
+            "1 curve; place below 0; place below 0, end within"
+        );
+        assert_eq!(one(4, -9), "1 curve; size below 0");
+        assert_eq!(
+            one(4, -4),
+            "1 curve; size below 0; size right without its minus"
+        );
+        let last = "1 curve; name up to the last byte; relative curves only; buffer longer";
         assert_eq!(sorts(&curve(0, 4), b"RAMP", 50), last);
     }
 
@@ -386,28 +541,89 @@ mod tests {
         assert_eq!(two(curve(0, 4), curve(0, 4)), "twins at one place");
         let elsewhere = sorts([curve(0, 1), curve(2, 1)].as_flattened(), b"A-A", 100);
         assert_eq!(elsewhere, "twins at two places");
-        let fronts = "one the front of another; fronts at one place; buffer longer";
+        let fronts = "one the front of another; fronts at one place; relative curves only; \
+                      buffer longer";
         assert_eq!(two(curve(0, 4), curve(0, 3)), fronts);
         let alike = sorts([curve(0, 2), curve(2, 2)].as_flattened(), b"A1A2", 71);
-        assert_eq!(
-            alike,
-            "name up to the last byte; another last byte only; buffer longer"
+        let due = "name up to the last byte; another last byte only; relative curves only; \
+                   buffer longer";
+        assert_eq!(alike, due);
+    }
+
+    #[test]
+    fn sorts_by_the_eight_numbers() {
+        let one = |number, due: &str| {
+            let due = format!("1 curve; {due}");
+            assert_eq!(of_curves(&[numbered(0, 4, number)], 6049), due);
+        };
+        one(0, "number 0; relative curves only; buffer longer");
+        one(
+            9_999_999,
+            "number 9999999; relative curves only; buffer longer",
+        );
+        let long = "33 by a long number alone; 33 by a number";
+        one(10_000_000, &format!("number 10000000; {long}"));
+        one(i32::MAX, &format!("number 2147483647; {long}"));
+        one(-7, "33 by one below 0 alone; 33 by a number");
+        one(
+            i32::MIN,
+            "number -2147483648; 33 by one below 0 alone; 33 by a number",
         );
     }
 
     #[test]
-    fn sorts_by_the_numbers_and_the_order() {
-        let one = |number| of_curves(&[numbered(0, 4, number)], 4897);
-        assert_eq!(one(0), "1 curve; number 0; buffer longer");
-        assert_eq!(one(9_999_999), "1 curve; number 9999999; buffer longer");
-        assert_eq!(one(10_000_000), "1 curve; number 10000000; 33 by a number");
-        assert_eq!(one(u32::MAX), "1 curve; number 4294967295; 33 by a number");
+    fn sorts_by_the_heights() {
+        let one = |[mark, height, grade]: [i32; 3], due: &str| {
+            let curves = [with_datum(mark, height, grade)];
+            assert_eq!(of_curves(&curves, 100), format!("1 curve; {due}"));
+        };
+        one([1, 7, 7], "absolute curves only; buffer longer");
+        one(
+            [1, 0, 0],
+            "number 0; absolute curves only; absolute with 0 and 0; buffer longer",
+        );
+        one(
+            [1, -1, 81],
+            "number -1; absolute curves only; card that 35 refuses; buffer longer",
+        );
+        let least = "number -9999999; absolute curves only; card that 34 refuses; buffer longer";
+        one([1, -9_999_999, 7], least);
+        one(
+            [1, -10_000_000, 7],
+            "number -10000000; 33 by a long height alone",
+        );
+        one(
+            [1, 7, i32::MIN],
+            "number -2147483648; 33 by a long grade alone",
+        );
+        one([0, 7, 0], "33 by a height beside 0 alone");
+        one([0, 0, -7], "33 by a grade beside 0 alone");
+        one([0, 7, 7], "33 by both beside mark 0");
+        one([2, 7, 7], "33 by a mark alone; mark 2");
+        let low_bits = "mark of which 8 bits are right; mark of which 16 bits are right";
+        one(
+            [i32::MIN, 7, 7],
+            &format!("33 by a mark alone; mark below 0; {low_bits}"),
+        );
+        one(
+            [257, 7, 7],
+            "33 by a mark alone; mark of which 8 bits are right",
+        );
+        let mut other = curve(4, 4);
+        other[12] = 0;
+        let both = of_curves(&[with_datum(1, 7, 7), other], 100);
+        assert_eq!(both, "curves of both kinds; buffer longer");
+    }
+
+    #[test]
+    fn sorts_by_the_order() {
         let (right, long, strange) = (curve(0, 4), numbered(0, 4, 1 << 30), curve(11, 1));
         let of = |curves: &[Curve]| of_curves(curves, 0);
         let twins = "twins at one place";
         assert_eq!(of(&[right, right]), format!("{twins}; 32 without a buffer"));
         let order = format!("{twins}; 32 before 33; 32 without a buffer");
         assert_eq!(of(&[right, long]), order);
+        assert_eq!(of(&[right, with_datum(2, 0, 0)]), order);
         let order = "strange sign; 31 before 33; 31 without a buffer";
         assert_eq!(of(&[long, strange]), order);
         let order = "strange sign; 31 before 32; 31 without a buffer";

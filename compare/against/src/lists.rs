@@ -1,36 +1,41 @@
 //! Seeded lists for the writer of books: right ones, such with a fault or more, and random numbers.
 
 use crate::books::{self, CAPITALS_AND_DIGITS, STRANGE};
+use crate::cards;
 use crate::lent::ABOVE_16_BITS;
 use crate::seeded::Seeded;
 use paper::read_book;
 
-/// Numbers that a curve takes in the list.
-pub const LISTED: usize = 10;
+/// Numbers that a curve takes in the list, and where its card and what its heights count from stand among them.
+pub const LISTED: usize = 13;
+pub const CARD: usize = 2;
+pub const MARK: usize = CARD + cards::MARK;
+pub const HEIGHT: usize = CARD + cards::HEIGHT;
+pub const GRADE: usize = CARD + cards::GRADE;
 /// No book has more curves.
 pub const MOST_CURVES: usize = 64;
 /// Bytes of the greatest book there is.
-pub const GREATEST_BOOK: usize = 4897;
+pub const GREATEST_BOOK: usize = 6049;
 /// One buffer in so many has more than 65,536 bytes.
 const LONG_ONE_IN: usize = 200;
 /// One list of a wrong length in so many has more than 65,536 curves.
 const LONGEST_ONE_IN: usize = 100;
 
-pub type Curve = [u32; LISTED];
+pub type Curve = [i32; LISTED];
 
 /// A list, and the bytes in which its name places count.
 pub struct List {
-    pub numbers: Vec<u32>,
+    pub numbers: Vec<i32>,
     pub names: Vec<u8>,
     /// What lies right behind either, where nobody may look.
-    pub beyond_numbers: Vec<u32>,
+    pub beyond_numbers: Vec<i32>,
     pub beyond_names: Vec<u8>,
 }
 
 /// Makes a seeded list.
 type Make = fn(&mut Seeded) -> List;
 
-pub const KINDS: [(&str, Make); 20] = [
+pub const KINDS: [(&str, Make); 23] = [
     ("names scattered", scattered),
     ("read from a book", from_a_book),
     ("card edited", card_edited),
@@ -47,6 +52,9 @@ pub const KINDS: [(&str, Make); 20] = [
     ("strange sign", |s| faulted(s, strange_sign)),
     ("twin name", twin_name),
     ("long number", |s| faulted(s, long_number)),
+    ("wrong mark", |s| faulted(s, wrong_mark)),
+    ("number below 0", |s| faulted(s, number_below_0)),
+    ("height beside mark 0", |s| faulted(s, beside_mark_0)),
     ("two faults", two_faults),
     ("three faults", |s| some_faults(&[31, 32, 33], s)),
     ("random, near", random_near),
@@ -64,10 +72,10 @@ impl List {
 
     /// Puts the name of a curve behind all other bytes.
     fn put_at_the_end(&mut self, curve: usize, name: &[u8]) {
-        let place = self.names.len() as u32;
+        let place = self.names.len() as i32;
         self.names.extend(name);
         let curve = &mut self.curves_mut()[curve];
-        (curve[0], curve[1]) = (place, name.len() as u32);
+        (curve[0], curve[1]) = (place, name.len() as i32);
     }
 
     /// The name of a curve that is right.
@@ -95,7 +103,7 @@ fn with_names(names: &[Vec<u8>], seeded: &mut Seeded) -> List {
         list.names.extend(gap(seeded));
     }
     for curve in list.curves_mut() {
-        curve[2..].copy_from_slice(&books::card(seeded));
+        curve[CARD..].copy_from_slice(&books::card(seeded));
     }
     list
 }
@@ -115,7 +123,7 @@ fn capitals(length: usize, seeded: &mut Seeded) -> Vec<u8> {
 }
 
 /// A curve that would be right if its name were no twin.
-fn one_more_curve(seeded: &mut Seeded) -> Vec<u32> {
+fn one_more_curve(seeded: &mut Seeded) -> Vec<i32> {
     [&[0, 1], &books::card(seeded)[..]].concat()
 }
 
@@ -161,9 +169,11 @@ fn card_edited(seeded: &mut Seeded) -> List {
     let curves = list.curves_mut();
     for _ in 0..seeded.between(1, 3) {
         let curve = seeded.below(curves.len());
-        match seeded.below(3) {
-            0 => curves[curve][2..].copy_from_slice(&books::card(seeded)),
-            _ => curves[curve][2 + seeded.below(8)] = books::digits(seeded),
+        let other = books::card(seeded);
+        match seeded.below(4) {
+            0 => curves[curve][CARD..].copy_from_slice(&other),
+            1 => curves[curve][MARK..].copy_from_slice(&other[cards::MARK..]),
+            _ => curves[curve][CARD + seeded.below(8)] = books::digits(seeded).cast_signed(),
         }
     }
     list
@@ -193,7 +203,7 @@ fn fronts_at_one_place(seeded: &mut Seeded) -> List {
     let sizes = shuffled(8, seeded);
     let fronts: Vec<_> = sizes.iter().map(|&size| full[..=size].to_vec()).collect();
     let mut list = with_names(&fronts[..seeded.between(2, 8) as usize], seeded);
-    let place = list.names.len() as u32;
+    let place = list.names.len() as i32;
     list.names.extend(full);
     for curve in list.curves_mut() {
         curve[0] = place;
@@ -208,7 +218,7 @@ fn far_names(seeded: &mut Seeded) -> List {
     let before = before + seeded.below(32);
     list.names.splice(0..0, capitals(before, seeded));
     for curve in list.curves_mut() {
-        curve[0] += before as u32;
+        curve[0] += before as i32;
     }
     list
 }
@@ -217,41 +227,47 @@ fn far_names(seeded: &mut Seeded) -> List {
 fn numbers_on_a_bound(seeded: &mut Seeded) -> List {
     let mut list = scattered(seeded);
     for curve in list.curves_mut() {
-        for number in &mut curve[2..] {
-            let bound = 10_u32.pow(seeded.between(0, 7));
-            *number = bound - 1;
-            if bound < 10_000_000 || seeded.one_in(400) {
-                *number = seeded.pick(&[bound - 1, bound]);
-            }
+        curve[CARD..MARK].fill_with(|| number_on_a_bound(seeded));
+        if curve[MARK] == 1 {
+            curve[HEIGHT..].fill_with(|| number_on_a_bound(seeded) * seeded.pick(&[1, -1]));
         }
     }
     list
+}
+
+fn number_on_a_bound(seeded: &mut Seeded) -> i32 {
+    let bound = 10_i32.pow(seeded.between(0, 7));
+    if bound < 10_000_000 || seeded.one_in(400) {
+        return seeded.pick(&[bound - 1, bound]);
+    }
+    bound - 1
 }
 
 fn full_list(seeded: &mut Seeded) -> List {
     of_count(MOST_CURVES, seeded)
 }
 
-/// 64 names of eight signs, and numbers of seven digits.
+/// 64 names of eight signs, and numbers of seven digits, the heights and grades with a minus.
 fn greatest_book(seeded: &mut Seeded) -> List {
     let names = books::long_names(seeded);
     let mut list = with_names(&names, seeded);
     for curve in list.curves_mut() {
-        curve[2..].fill_with(|| seeded.between(1_000_000, 9_999_999));
+        curve[CARD..].copy_from_slice(&books::long_card(1, seeded));
     }
     list
 }
 
-/// No numbers, 1 to 9, some too many or too few for whole curves, too many curves; also exactly 10 and 640.
+/// No numbers, 1 to 12, some too many or too few for whole curves, ten a curve, too many curves; also exactly 13 and 832.
 fn wrong_length(seeded: &mut Seeded) -> List {
-    match seeded.below(12) {
+    match seeded.below(13) {
         0 => no_numbers(seeded),
-        1 => cut_to(seeded.pick(&[1, 5, 9, 9, 9, 10]), seeded),
+        1 => cut_to(seeded.pick(&[1, 10, 12, 12, 12, 13]), seeded),
         2 | 3 => {
             let whole = LISTED * books::curve_count(seeded);
-            cut_to(whole + seeded.between(1, 9) as usize, seeded)
+            cut_to(whole + seeded.between(1, 12) as usize, seeded)
         }
-        4 => cut_to(seeded.pick(&[639, 640, 641, 649]), seeded),
+        4 => cut_to(seeded.pick(&[831, 832, 833, 844]), seeded),
+        12 => cut_to(10 * books::curve_count(seeded), seeded),
         5..=7 => of_count(65, seeded),
         8 => of_count(seeded.between(66, 130) as usize, seeded),
         9 => with_more(LISTED * 256, seeded),
@@ -280,7 +296,8 @@ fn cut_to(numbers: usize, seeded: &mut Seeded) -> List {
 /// Right curves and so many numbers more: 8 or 16 bits of their count would leave the right ones.
 fn with_more(more: usize, seeded: &mut Seeded) -> List {
     let mut list = scattered(seeded);
-    list.numbers.extend((0..more).map(|_| seeded.number()));
+    let more = (0..more).map(|_| seeded.number().cast_signed());
+    list.numbers.extend(more);
     list
 }
 
@@ -320,29 +337,38 @@ fn put_long_name(list: &mut List, curve: usize, size: usize, seeded: &mut Seeded
     list.names.extend(gap(seeded));
 }
 
+/// Far too long, or below 0; of some of these, 8, 16 or 31 bits would be right, or the number without its minus.
 fn put_huge_size(list: &mut List, curve: usize, seeded: &mut Seeded) {
     let size = &mut list.curves_mut()[curve][1];
-    *size = seeded.pick(&[256 + *size, 65_536 + *size, (1 << 31) + *size, u32::MAX]);
+    let (right, least) = (*size, i32::MIN);
+    let above = [256 + right, 65_536 + right, i32::MAX];
+    let below = [-right, -1, least, least + right, right - 256];
+    *size = match seeded.below(2) {
+        0 => seeded.pick(&above),
+        _ => seeded.pick(&below),
+    };
 }
 
 /// A name without bytes; its place is within, at the end or past it.
 fn put_no_name(list: &mut List, curve: usize, seeded: &mut Seeded) {
-    let end = list.names.len() as u32;
+    let end = list.names.len() as i32;
     let curve = &mut list.curves_mut()[curve];
     curve[0] = seeded.pick(&[curve[0], curve[0], end, end + 1]);
     curve[1] = 0;
 }
 
-/// One byte past the end, wholly past it, far past it, or so that 32 bits of place and size lie within.
+/// One byte past the end, wholly past it, far past it, above 31 bits with its size, or from a place below 0.
 fn name_outside(list: &mut List, curve: usize, seeded: &mut Seeded) {
     let [place, size, ..] = list.curves()[curve];
-    let end = list.names.len() as u32;
-    let outside = match seeded.below(8) {
+    let end = list.names.len() as i32;
+    let outside = match seeded.below(10) {
         0..=2 => return one_byte_past(list, curve, seeded),
         3 => end,
-        4 => end + seeded.between(1, 9),
-        5 => place + seeded.pick(&[65_536, 1 << 31, 1 << 24]),
-        _ => 0_u32.wrapping_sub(seeded.between(1, size)),
+        4 => end + seeded.signed(1, 9),
+        5 => place + seeded.pick(&[65_536, 1 << 24, 1 << 30]),
+        6 => i32::MAX - seeded.signed(0, size - 1),
+        7 => seeded.pick(&[i32::MIN, i32::MIN + place, -1 - place]),
+        _ => -seeded.signed(1, size),
     };
     list.curves_mut()[curve][0] = outside;
 }
@@ -370,18 +396,73 @@ fn strange_sign(list: &mut List, curve: usize, seeded: &mut Seeded) {
     list.names.extend(gap(seeded));
 }
 
+/// One of the eight, or the height or grade of an absolute curve, has more than seven digits.
 fn long_number(list: &mut List, curve: usize, seeded: &mut Seeded) {
-    let place = 2 + seeded.below(8);
     let number = match seeded.below(8) {
         0..=2 => 10_000_000,
-        3 => u32::MAX,
-        4 => 10_u32.pow(seeded.between(8, 9)) - 1,
-        5 => 10_000_000 + books::digits(seeded),
+        3 => i32::MAX,
+        4 => 10_i32.pow(seeded.between(8, 9)) - 1,
+        5 => 10_000_000 + books::digits(seeded).cast_signed(),
         // Of these, 24 bits are a number of one digit or more.
-        6 => (1 << 24) * seeded.between(1, 255) + seeded.between(0, 1000),
-        _ => seeded.between(10_000_000, u32::MAX),
+        6 => (1 << 24) * seeded.signed(1, 127) + seeded.signed(0, 1000),
+        _ => seeded.signed(10_000_000, i32::MAX),
     };
-    list.curves_mut()[curve][place] = number;
+    let curve = &mut list.curves_mut()[curve];
+    if seeded.one_in(2) {
+        curve[CARD + seeded.below(8)] = number;
+        return;
+    }
+    let number = seeded.pick(&[number, -number, -number, i32::MIN]);
+    curve[MARK] = 1;
+    curve[seeded.pick(&[HEIGHT, GRADE])] = number;
+}
+
+/// A mark that is neither 0 nor 1; of some of them 8 or 16 bits are. The height and grade stay, or are both 0.
+fn wrong_mark(list: &mut List, curve: usize, seeded: &mut Seeded) {
+    let marks = [
+        2,
+        2,
+        -1,
+        -1,
+        3,
+        10,
+        256,
+        257,
+        65_536,
+        65_537,
+        i32::MIN,
+        i32::MAX,
+    ];
+    let curve = &mut list.curves_mut()[curve];
+    curve[MARK] = seeded.pick(&marks);
+    if seeded.one_in(3) {
+        curve[HEIGHT..].fill(0);
+    }
+}
+
+/// One of the eight is below 0: often no more than one, or a number that is right without its minus.
+fn number_below_0(list: &mut List, curve: usize, seeded: &mut Seeded) {
+    let number = &mut list.curves_mut()[curve][CARD + seeded.below(8)];
+    *number = match seeded.below(6) {
+        0 | 1 => -1,
+        2 => -(*number).max(1),
+        3 => -books::digits(seeded).max(1).cast_signed(),
+        4 => -10_000_000,
+        _ => i32::MIN + seeded.signed(0, 9_999_999),
+    };
+}
+
+/// A relative curve with a height, a grade or both; any number but 0.
+fn beside_mark_0(list: &mut List, curve: usize, seeded: &mut Seeded) {
+    let curve = &mut list.curves_mut()[curve];
+    curve[MARK..].fill(0);
+    let mut number = || seeded.signed(1, 9_999_999) * seeded.pick(&[1, -1]);
+    let [height, grade] = [number(), number()];
+    match seeded.below(3) {
+        0 => curve[HEIGHT] = height,
+        1 => curve[GRADE] = grade,
+        _ => (curve[HEIGHT], curve[GRADE]) = (height, grade),
+    }
 }
 
 /// Gives one curve the name of another: its place, or the same bytes elsewhere.
@@ -423,7 +504,8 @@ fn some_faults(numbers: &[u32], seeded: &mut Seeded) -> List {
         make_twins(&mut list, (curves[0], curves[1]), seeded);
     }
     if numbers.contains(&33) {
-        long_number(&mut list, curves[2], seeded);
+        let faults = [long_number, wrong_mark, number_below_0, beside_mark_0];
+        seeded.pick(&faults)(&mut list, curves[2], seeded);
     }
     if numbers.contains(&31) {
         seeded.pick(&[wrong_size, name_outside, strange_sign])(&mut list, curves[3], seeded);
@@ -440,15 +522,15 @@ fn random_near(seeded: &mut Seeded) -> List {
     }
     let curve = |_| {
         let mut curve = [0; LISTED];
-        curve[0] = seeded.below(length - 6) as u32;
+        curve[0] = seeded.below(length - 6) as i32;
         curve[1] = if seeded.one_in(30) {
             9
         } else {
-            seeded.between(3, 8)
+            seeded.signed(3, 8)
         };
-        curve[2..].copy_from_slice(&books::card(seeded));
+        curve[CARD..].copy_from_slice(&books::card(seeded));
         if seeded.one_in(30) {
-            curve[2 + seeded.below(8)] = seeded.number();
+            curve[CARD + seeded.below(cards::CARD_NUMBERS)] = seeded.number().cast_signed();
         }
         curve
     };
@@ -464,10 +546,10 @@ fn random_near(seeded: &mut Seeded) -> List {
 /// Numbers of any size, as many as whole curves take, or any count of them; random bytes.
 fn random_numbers(seeded: &mut Seeded) -> List {
     let whole = LISTED * seeded.between(0, 66) as usize;
-    let any = seeded.below(700);
+    let any = seeded.below(900);
     let count = seeded.pick(&[LISTED, whole, any]);
     let length = seeded.below(100);
-    let number = |_| seeded.number() >> seeded.below(32);
+    let number = |_| (seeded.number() >> seeded.below(32)).cast_signed();
     List {
         numbers: (0..count).map(number).collect(),
         names: (0..length).map(|_| seeded.number() as u8).collect(),
@@ -477,17 +559,27 @@ fn random_numbers(seeded: &mut Seeded) -> List {
 }
 
 /// Bytes of the book of a list, whatever is wrong with it: at most 65 curves, names of 1 to 8 bytes, numbers of any length.
-pub fn book_size(list: &List) -> usize {
-    let digits = |number: u32| number.to_string().len();
-    let count = list.curves().len();
-    let mut size = digits(count as u32) + 1;
-    let curves = list.curves().iter().take(MOST_CURVES + 1);
-    for (place, curve) in curves.enumerate() {
-        let line = digits((count + 2 + place) as u32);
-        let body: usize = curve[2..].iter().map(|&number| digits(number) + 1).sum();
+pub fn book_size(list: &[i32]) -> usize {
+    let digits = |number: i32| number.to_string().len();
+    let (curves, _) = list.as_chunks();
+    let count = curves.len();
+    let mut size = digits(count as i32) + 1;
+    for (place, curve) in curves.iter().take(MOST_CURVES + 1).enumerate() {
+        let line = digits((count + 2 + place) as i32);
+        let body: usize = body_numbers(curve).map(|number| digits(number) + 1).sum();
         size += curve[1].clamp(1, 8) as usize + 1 + line + 1 + body;
     }
     size
+}
+
+/// The numbers that the body of a curve has, eight where the mark is 0, else ten.
+pub fn body_numbers(curve: &Curve) -> impl Iterator<Item = i32> + '_ {
+    let of_datum = if curve[MARK] == 0 {
+        &[]
+    } else {
+        &curve[HEIGHT..]
+    };
+    curve[CARD..MARK].iter().chain(of_datum).copied()
 }
 
 /// None, any below, one byte short, exactly due, one more, many more, enough for every book, rarely above 65,536.
@@ -521,7 +613,7 @@ mod tests {
                 let list = make(&mut Seeded::new(1, kind as u64, index));
                 let reply = write_book(&list.numbers, &list.names, &mut [0; GREATEST_BOOK]);
                 if reply.number == 0 {
-                    assert_eq!(book_size(&list), reply.count as usize, "{name}");
+                    assert_eq!(book_size(&list.numbers), reply.count as usize, "{name}");
                 }
             }
         }

@@ -7,8 +7,10 @@
 #![forbid(unsafe_code)]
 
 mod book_case;
+mod book_tally;
 mod books;
 mod card_case;
+mod card_tally;
 mod cards;
 mod day_case;
 mod day_tally;
@@ -25,12 +27,20 @@ mod tally;
 mod words;
 mod work;
 #[cfg(test)]
+mod wrong_books;
+#[cfg(test)]
+mod wrong_cards;
+#[cfg(test)]
 mod wrong_days;
+#[cfg(test)]
+mod wrong_listed_heights;
 #[cfg(test)]
 mod wrong_lists;
 #[cfg(test)]
 mod wrong_radii;
 
+use book_tally::SORTS as BOOK_SORTS;
+use card_tally::SORTS as CARD_SORTS;
 use day_tally::{DayTally, DAY_REPLIES, PLACES, SORTS as DAY_SORTS};
 use list_tally::{ListTally, LIST_REPLIES, SORTS as LIST_SORTS};
 use std::env;
@@ -71,28 +81,15 @@ fn asked() -> Result<Asked, String> {
 
 /// Everything, besides differences, for which the run does not count as evidence.
 fn lacks(asked: Asked, tally: &Tally) -> Vec<String> {
-    let mut lacks = Vec::new();
     let often = |size, default, often| if size >= default { often } else { 1 };
     let cards_often = often(asked.cards, DEFAULT.cards, OFTEN);
-    for (place, reply) in CARD_REPLIES.iter().enumerate() {
-        let met = tally.card_reply(place);
-        lacks.extend(rarely(&format!("card reply {reply}"), met, cards_often));
-    }
-    for (place, sort) in SORTS.iter().enumerate() {
-        let met = tally.sort(place);
-        lacks.extend(rarely(&format!("runoffs {sort}"), met, cards_often));
-    }
+    let mut lacks = card_lacks(tally, cards_often);
     let books_often = often(asked.books, DEFAULT.books, OFTEN);
-    for (place, reply) in BOOK_REPLIES.iter().enumerate() {
-        let met = tally.book_reply(place);
-        lacks.extend(rarely(&format!("book reply {reply}"), met, books_often));
-    }
+    lacks.extend(book_lacks(tally, books_often));
     let days_often = often(asked.days, DEFAULT.days, OFTEN_IN_DAYS);
     lacks.extend(day_lacks(&tally.days, days_often));
     let lists_often = often(asked.lists, DEFAULT.lists, OFTEN);
     lacks.extend(list_lacks(&tally.lists, lists_often));
-    let unlisted = tally.unlisted;
-    lacks.extend((unlisted > 0).then(|| format!("a listed reply to {unlisted} cards")));
     let whole = asked.cards >= DEFAULT.cards && asked.books >= DEFAULT.books;
     let whole = whole && asked.days >= DEFAULT.days && asked.lists >= DEFAULT.lists;
     lacks.extend(unseen("card", &tally.altered_cards, whole));
@@ -100,6 +97,38 @@ fn lacks(asked: Asked, tally: &Tally) -> Vec<String> {
     lacks.extend(unseen("day", &tally.days.altered, whole));
     lacks.extend(unseen("radius", &tally.altered_radii, true));
     lacks.extend(unseen("list", &tally.lists.altered, whole));
+    lacks
+}
+
+/// Replies to cards, sorts of runoffs and sorts of cards that are met too rarely.
+fn card_lacks(tally: &Tally, due: u64) -> Vec<String> {
+    let mut lacks = Vec::new();
+    for (place, reply) in CARD_REPLIES.iter().enumerate() {
+        let met = tally.card_reply(place);
+        lacks.extend(rarely(&format!("card reply {reply}"), met, due));
+    }
+    for (place, sort) in SORTS.iter().enumerate() {
+        let met = tally.sort(place);
+        lacks.extend(rarely(&format!("runoffs {sort}"), met, due));
+    }
+    for ((sort, _), &met) in CARD_SORTS.iter().zip(&tally.card_sorts) {
+        lacks.extend(rarely(&format!("card with {sort}"), met, due));
+    }
+    let unlisted = tally.unlisted;
+    lacks.extend((unlisted > 0).then(|| format!("a listed reply to {unlisted} cards")));
+    lacks
+}
+
+/// Replies to books and sorts of books that are met too rarely.
+fn book_lacks(tally: &Tally, due: u64) -> Vec<String> {
+    let mut lacks = Vec::new();
+    for (place, reply) in BOOK_REPLIES.iter().enumerate() {
+        let met = tally.book_reply(place);
+        lacks.extend(rarely(&format!("book reply {reply}"), met, due));
+    }
+    for ((sort, _), &met) in BOOK_SORTS.iter().zip(&tally.book_sorts) {
+        lacks.extend(rarely(&format!("book with {sort}"), met, due));
+    }
     lacks
 }
 

@@ -40,6 +40,11 @@ impl Seeded {
         low + (self.next() % (u64::from(high - low) + 1)) as u32
     }
 
+    /// The same of numbers with a sign.
+    pub fn signed(&mut self, low: i32, high: i32) -> i32 {
+        low.wrapping_add_unsigned(self.between(0, high.abs_diff(low)))
+    }
+
     pub fn one_in(&mut self, share: usize) -> bool {
         self.below(share) == 0
     }

@@ -1,28 +1,37 @@
 //! What was met, and what differed.
 
 use crate::book_case::{self, BookCase};
+use crate::book_tally::{self, SORTS as BOOK_SORTS};
 use crate::books;
 use crate::card_case::{self, CardAnswer, CardCase, CLASSES};
+use crate::card_tally::{self, SORTS as CARD_SORTS};
 use crate::cards;
 use crate::day_tally::DayTally;
 use crate::list_tally::ListTally;
 use crate::radius_case::{self, RadiusCase};
-use paper::card::profile;
+use paper::card::{profile, Datum};
 use paper::section::{Course, Runoff};
 use paper::Card;
 
 /// Differences that are shown in full.
 pub const SHOWN: usize = 10;
-/// The four kinds of cards, and the cards of curves in accepted books.
+/// The kinds of cards, and the cards of curves in accepted books.
 pub const CARD_KINDS: usize = cards::KINDS.len() + 1;
 pub const FROM_A_BOOK: usize = CARD_KINDS - 1;
 pub const BOOK_KINDS: usize = books::KINDS.len();
-/// "Number 7 never occurs again" (document 02, Slip 1).
-pub const CARD_REPLIES: [u32; 11] = [0, 1, 2, 3, 4, 5, 6, 8, 9, 10, 11];
+/// "Number 7 never occurs again" (document 02, Slip 1); 34 and 35 come "after 10 and before 11" (Slip 5).
+pub const CARD_REPLIES: [u32; 13] = [0, 1, 2, 3, 4, 5, 6, 8, 9, 10, 34, 35, 11];
 pub const BOOK_REPLIES: [u32; 9] = [0, 21, 22, 23, 24, 25, 26, 27, 28];
 
 /// Sorts of runoffs for which rows come; a runoff can be of more than one.
-pub const SORTS: [&str; 4] = ["even", "two-stage", "kept at m", "W above c"];
+pub const SORTS: [&str; 6] = [
+    "even",
+    "two-stage",
+    "kept at m",
+    "W above c",
+    "relative",
+    "absolute",
+];
 
 /// Where a radius lies, and the listed lengths in metres.
 pub const RANGES: [&str; 3] = ["below 30", "30 to 2000", "above 2000"];
@@ -42,7 +51,9 @@ fn sorts(card: &Card) -> [bool; SORTS.len()] {
     let profile = profile(card.profile).expect("an accepted card has a profile");
     let even = Runoff::new(card).course == Course::Even;
     let kept = card.full_widening + profile.least_shoulder > profile.shoulder;
-    [even, !even, kept, card.full_widening > profile.shoulder]
+    let above = card.full_widening > profile.shoulder;
+    let relative = card.datum == Datum::Relative;
+    [even, !even, kept, above, relative, !relative]
 }
 
 /// How many answers were altered, and how many of them were found.
@@ -58,14 +69,15 @@ pub struct Difference {
     pub words: String,
 }
 
-#[derive(Default)]
 pub struct Tally {
     pub cards: [[u64; CARD_REPLIES.len()]; CARD_KINDS],
     pub classes: [[u64; CLASSES.len()]; CARD_KINDS],
     /// Cards to which the library or the paper gave a number that is not among the replies.
     pub unlisted: u64,
     pub sorts: [[u64; SORTS.len()]; 5],
+    pub card_sorts: [u64; CARD_SORTS.len()],
     pub books: [[u64; BOOK_REPLIES.len()]; BOOK_KINDS],
+    pub book_sorts: [u64; BOOK_SORTS.len()],
     pub rows: u64,
     pub table_numbers: u64,
     pub curves: u64,
@@ -79,6 +91,33 @@ pub struct Tally {
     pub lists: ListTally,
     pub differing: u64,
     pub differences: Vec<Difference>,
+}
+
+impl Default for Tally {
+    fn default() -> Tally {
+        Tally {
+            cards: [[0; CARD_REPLIES.len()]; CARD_KINDS],
+            classes: [[0; CLASSES.len()]; CARD_KINDS],
+            unlisted: 0,
+            sorts: [[0; SORTS.len()]; 5],
+            card_sorts: [0; CARD_SORTS.len()],
+            books: [[0; BOOK_REPLIES.len()]; BOOK_KINDS],
+            book_sorts: [0; BOOK_SORTS.len()],
+            rows: 0,
+            table_numbers: 0,
+            curves: 0,
+            list_numbers: 0,
+            radii: [[0; LENGTHS.len()]; RANGES.len()],
+            radius_numbers: 0,
+            altered_cards: [Altered::default(); card_case::ALTERATIONS.len()],
+            altered_books: [Altered::default(); book_case::ALTERATIONS.len()],
+            altered_radii: [Altered::default(); radius_case::ALTERATIONS.len()],
+            days: DayTally::default(),
+            lists: ListTally::default(),
+            differing: 0,
+            differences: Vec::new(),
+        }
+    }
 }
 
 pub fn add_numbers<const N: usize>(to: &mut [u64; N], from: &[u64; N]) {
@@ -113,6 +152,11 @@ impl Tally {
             let sorts = sorts(&Card::new(&case.card)).map(u64::from);
             add_numbers(&mut self.sorts[case.card[0] as usize - 1], &sorts);
         }
+        if kind != FROM_A_BOOK {
+            let seen = card_tally::Seen::new(case);
+            let sorts = CARD_SORTS.map(|(_, is_of_sort)| u64::from(is_of_sort(&seen)));
+            add_numbers(&mut self.card_sorts, &sorts);
+        }
     }
 
     pub fn count_book(&mut self, kind: usize, case: &BookCase) {
@@ -120,6 +164,9 @@ impl Tally {
         self.books[kind][met.expect("a reply of the paper")] += 1;
         self.curves += u64::from(case.due.count.numbers()[0]);
         self.list_numbers += case.due.numbers_compared();
+        let seen = book_tally::Seen::new(case);
+        let sorts = BOOK_SORTS.map(|(_, is_of_sort)| u64::from(is_of_sort(&seen)));
+        add_numbers(&mut self.book_sorts, &sorts);
     }
 
     pub fn count_radius(&mut self, case: &RadiusCase) {
@@ -151,6 +198,8 @@ impl Tally {
         for range in 0..RANGES.len() {
             add_numbers(&mut self.radii[range], &other.radii[range]);
         }
+        add_numbers(&mut self.card_sorts, &other.card_sorts);
+        add_numbers(&mut self.book_sorts, &other.book_sorts);
         add_altered(&mut self.altered_cards, &other.altered_cards);
         add_altered(&mut self.altered_books, &other.altered_books);
         add_altered(&mut self.altered_radii, &other.altered_radii);
@@ -193,14 +242,16 @@ impl Tally {
 #[cfg(test)]
 mod tests {
     use super::Tally;
-    use crate::card_case::{run, CardCase};
+    use crate::card_case::{library, run, CardCase};
+    use crate::cards::Numbers;
     use crate::seeded::Seeded;
+    use paper::card::relative;
 
-    const RAMP: [u32; 8] = [5, 1, 30, 30_000, 60, 600, 20_000, 1];
+    const RAMP: Numbers = relative([5, 1, 30, 30_000, 60, 600, 20_000, 1]);
 
     /// How many cards are counted as unlisted when this is done to the answers for RAMP.
     fn unlisted(alter: fn(&mut CardCase)) -> u64 {
-        let mut case = run(RAMP, &mut Seeded::new(1, 1, 1));
+        let mut case = run(RAMP, library, &mut Seeded::new(1, 1, 1));
         alter(&mut case);
         let mut tally = Tally::default();
         tally.count_card(0, &case);
@@ -216,5 +267,7 @@ mod tests {
         assert_eq!(unlisted(|case| case.came.reply = 7), 1);
         assert_eq!(unlisted(|case| case.came.reply = 12), 1);
         assert_eq!(unlisted(|case| case.came.reply = 8), 0);
+        assert_eq!(unlisted(|case| case.came.reply = 34), 0);
+        assert_eq!(unlisted(|case| case.came.reply = 36), 1);
     }
 }

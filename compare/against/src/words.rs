@@ -1,8 +1,10 @@
 //! The tally and the differences, in words.
 
 use crate::book_case::{self, BookAnswer, BookCase};
+use crate::book_tally::SORTS as BOOK_SORTS;
 use crate::books;
 use crate::card_case::{self, CardAnswer, CardCase, CLASSES};
+use crate::card_tally::SORTS as CARD_SORTS;
 use crate::cards;
 use crate::day_case::{self, DayAnswer, DayCase};
 use crate::day_tally::{DAY_REPLIES, PLACES, SORTS as DAY_SORTS};
@@ -50,8 +52,8 @@ pub fn print_tally(tally: &Tally) {
 }
 
 fn card_kind_names() -> Vec<&'static str> {
-    let four = cards::KINDS.iter().map(|(name, _)| *name);
-    four.chain(["from a book"]).collect()
+    let made = cards::KINDS.iter().map(|(name, _)| *name);
+    made.chain(["from a book"]).collect()
 }
 
 fn print_cards(tally: &Tally) {
@@ -74,6 +76,11 @@ fn print_cards(tally: &Tally) {
     for (profile, counts) in tally.sorts.iter().enumerate() {
         line(&format!("profile {}", profile + 1), counts);
     }
+    println!();
+    heading("Cards by sort", &["met".to_string()]);
+    for ((name, _), met) in CARD_SORTS.iter().zip(&tally.card_sorts) {
+        line(name, &[*met]);
+    }
     let (rows, numbers) = (tally.rows, tally.table_numbers);
     println!("{rows} rows compared; {numbers} numbers, tails and guards too");
 }
@@ -87,6 +94,11 @@ fn print_books(tally: &Tally) {
         line(name, counts);
     }
     line("all", &sum(&tally.books));
+    println!();
+    heading("Books by sort", &["met".to_string()]);
+    for ((name, _), met) in BOOK_SORTS.iter().zip(&tally.book_sorts) {
+        line(name, &[*met]);
+    }
     let (curves, numbers) = (tally.curves, tally.list_numbers);
     println!("{curves} curves compared; {numbers} numbers and bytes, tails and guards too");
 }
@@ -192,7 +204,7 @@ pub fn print_differences(tally: &Tally) {
     }
 }
 
-/// The numbers of a card, as a book has them.
+/// The eleven numbers of a card.
 fn numbers(card: &cards::Numbers) -> String {
     card.map(|number| number.to_string()).join(" ")
 }

@@ -33,6 +33,7 @@ const RADIUS: u64 = 7;
 const ALTERED_RADIUS: u64 = 8;
 const LIST: u64 = 9;
 const ALTERED_LIST: u64 = 10;
+const FILLED_BOOK: u64 = 11;
 /// One accepted book in so many has its cards filled into tables too.
 const BOOKS_FILLED: usize = 4;
 
@@ -92,14 +93,21 @@ fn indices(nth: u64, piece: u64, total: u64, altered: &mut Seeded) -> (Range<u64
     (range, chosen)
 }
 
+/// The kind of the card of that index, and its answers by the paper and by the calls.
+pub fn card(seed: u64, index: u64, call: card_case::Call) -> (usize, CardCase) {
+    let mut seeded = Seeded::new(seed, CARD, index);
+    let kind = index as usize % cards::KINDS.len();
+    let (_, make) = cards::KINDS[kind];
+    let card = make(&mut seeded);
+    (kind, card_case::run(card, call, &mut seeded))
+}
+
 fn cards_of(piece: u64, nth: u64, asked: Asked, tally: &mut Tally) {
     let mut altered = Seeded::new(asked.seed, ALTERED_CARD, nth);
     let (range, chosen) = indices(nth, PIECE, asked.cards, &mut altered);
     for index in range {
-        let mut seeded = Seeded::new(asked.seed, CARD, index);
-        let kind = index as usize % cards::KINDS.len();
-        let (name, make) = cards::KINDS[kind];
-        let case = card_case::run(make(&mut seeded), &mut seeded);
+        let (kind, case) = card(asked.seed, index, card_case::library);
+        let (name, _) = cards::KINDS[kind];
         let like = compare_card(piece, &format_args!("{name}, index {index}"), &case, tally);
         tally.count_card(kind, &case);
         if like && index == chosen {
@@ -117,14 +125,21 @@ fn compare_card(piece: u64, origin: &Arguments, case: &CardCase, tally: &mut Tal
     unlike.is_empty()
 }
 
+/// The kind of the book of that index, and its answers by the paper and by the call.
+pub fn book(seed: u64, index: u64, call: book_case::Call) -> (usize, BookCase) {
+    let mut seeded = Seeded::new(seed, BOOK, index);
+    let kind = index as usize % books::KINDS.len();
+    let (_, make) = books::KINDS[kind];
+    let book = make(&mut seeded);
+    (kind, book_case::run(&book, call, &mut seeded))
+}
+
 fn books_of(piece: u64, nth: u64, asked: Asked, tally: &mut Tally) {
     let mut altered = Seeded::new(asked.seed, ALTERED_BOOK, nth);
     let (range, chosen) = indices(nth, PIECE, asked.books, &mut altered);
     for index in range {
-        let mut seeded = Seeded::new(asked.seed, BOOK, index);
-        let kind = index as usize % books::KINDS.len();
-        let (name, make) = books::KINDS[kind];
-        let case = book_case::run(&make(&mut seeded), &mut seeded);
+        let (kind, case) = book(asked.seed, index, book_case::library);
+        let (name, _) = books::KINDS[kind];
         let unlike = case.due.unlike(&case.came);
         let origin = format_args!("{name}, index {index}");
         tally.count_book(kind, &case);
@@ -132,6 +147,7 @@ fn books_of(piece: u64, nth: u64, asked: Asked, tally: &mut Tally) {
             tally.differs(piece, || words::book_difference(&origin, &case, &unlike));
             continue;
         }
+        let mut seeded = Seeded::new(asked.seed, FILLED_BOOK, index);
         if seeded.one_in(BOOKS_FILLED) {
             fill_tables(piece, index, &case, &mut seeded, tally);
         }
@@ -144,7 +160,7 @@ fn books_of(piece: u64, nth: u64, asked: Asked, tally: &mut Tally) {
 /// The cards go from the library's list into its tables.
 fn fill_tables(piece: u64, index: u64, case: &BookCase, seeded: &mut Seeded, tally: &mut Tally) {
     for (curve, card) in case.came.cards().into_iter().enumerate() {
-        let case = card_case::run(card, seeded);
+        let case = card_case::run(card, card_case::library, seeded);
         let origin = format_args!("curve {curve} of book index {index}");
         compare_card(piece, &origin, &case, tally);
         tally.count_card(FROM_A_BOOK, &case);

@@ -1,6 +1,6 @@
 //! Wrong programs for a day's cards: the comparison must find each of them.
 
-use crate::cards::{Numbers, LENGTH, STEP};
+use crate::cards::{Numbers, CARD_NUMBERS, HEIGHT, LENGTH, MARK, STEP};
 use crate::day_case::{Call, Loan};
 use crate::days::{MOST_CARDS, REPLY, ROW};
 use crate::lent::ABOVE_16_BITS;
@@ -264,6 +264,91 @@ const WRONG_REFUSALS: [(&str, Call); 13] = [
     }),
 ];
 
+/// Fills the table from the cards with this done to all of them.
+fn with_cards(loan: &mut Loan, change: fn(&mut [Numbers])) -> u32 {
+    let mut cards = loan.cards.to_vec();
+    change(&mut cards);
+    let reply = fill_day(&cards, loan.table, loan.replies);
+    *loan.count = reply.count;
+    reply.number
+}
+
+/// The cards that begin at every so many numbers of the list.
+fn by_stride(cards: &mut [Numbers], stride: usize) {
+    let numbers = cards.as_flattened().to_vec();
+    for (place, card) in cards.iter_mut().enumerate() {
+        card.copy_from_slice(&numbers[stride * place..][..CARD_NUMBERS]);
+    }
+}
+
+/// Wrong as to the heights of the cards.
+const WRONG_HEIGHTS: [(&str, Call); 9] = [
+    ("every card at the first one's height", |loan| {
+        with_cards(loan, |cards| {
+            let first = cards.first().copied();
+            for card in cards {
+                card[MARK..].copy_from_slice(&first.expect("a card")[MARK..]);
+            }
+        })
+    }),
+    ("a relative card at the height before it", |loan| {
+        with_cards(loan, |cards| {
+            for place in 1..cards.len() {
+                let before = cards[place - 1];
+                if cards[place][MARK] == 0 {
+                    cards[place][MARK..].copy_from_slice(&before[MARK..]);
+                }
+            }
+        })
+    }),
+    ("every card relative", |loan| {
+        with_cards(loan, |cards| {
+            cards.iter_mut().for_each(|card| card[MARK..].fill(0));
+        })
+    }),
+    ("mark 1 alone absolute", |loan| {
+        with_cards(loan, |cards| {
+            let mark = |card: &mut Numbers| card[MARK] = i32::from(card[MARK] == 1);
+            cards.iter_mut().for_each(mark);
+        })
+    }),
+    ("the heights summed up", |loan| {
+        with_cards(loan, |cards| {
+            let mut sum = 0_i32;
+            for card in cards.iter_mut().filter(|card| card[MARK] == 1) {
+                sum = sum.wrapping_add(card[HEIGHT]);
+                card[HEIGHT] = sum;
+            }
+        })
+    }),
+    ("cards of ten numbers", |loan| {
+        with_cards(loan, |cards| by_stride(cards, 10))
+    }),
+    ("cards of eight numbers", |loan| {
+        with_cards(loan, |cards| {
+            by_stride(cards, 8);
+            cards.iter_mut().for_each(|card| card[MARK..].fill(0));
+        })
+    }),
+    ("a card with 34 or 35 uses its rows", |loan| {
+        fill_using(loan, |card, reply, rest| match reply.number {
+            34 | 35 => in_all_rows(card),
+            _ => in_rows(card, reply, rest),
+        })
+    }),
+    ("34 and 35 for every card behind", |loan| {
+        let number = right(loan);
+        let mut before = 0;
+        for reply in card_replies(loan) {
+            if matches!(before, 34 | 35) {
+                *reply = [before, 0];
+            }
+            before = reply[0];
+        }
+        number
+    }),
+];
+
 /// The first day for which the program differs from the paper.
 fn first_difference(program: Call) -> Option<u64> {
     let differs = |&index: &u64| {
@@ -301,4 +386,9 @@ fn wrong_replies_are_found() {
 #[test]
 fn wrong_refusals_are_found() {
     all_are_found(&WRONG_REFUSALS);
+}
+
+#[test]
+fn wrong_heights_are_found() {
+    all_are_found(&WRONG_HEIGHTS);
 }

@@ -2,7 +2,7 @@
 
 use crate::lent::ABOVE_16_BITS;
 use crate::list_case::{Call, Loan};
-use crate::lists::{Curve, LISTED, MOST_CURVES};
+use crate::lists::{body_numbers, Curve, CARD, GREATEST_BOOK, HEIGHT, LISTED, MARK, MOST_CURVES};
 use crate::work::list;
 use crate::DEFAULT;
 use paper::write_book;
@@ -10,34 +10,34 @@ use paper::write_book;
 /// A wrong program must be found among so many of the first lists of the default run.
 const FIRST_LISTS: u64 = DEFAULT.lists / 50;
 
-fn right(loan: &mut Loan) -> u32 {
+pub fn right(loan: &mut Loan) -> u32 {
     right_for(loan.list, loan)
 }
 
 /// The right program, for another list.
-fn right_for(list: &[u32], loan: &mut Loan) -> u32 {
+pub fn right_for(list: &[i32], loan: &mut Loan) -> u32 {
     let reply = write_book(list, loan.names, loan.buffer);
     *loan.count = reply.count;
     reply.number
 }
 
 /// Looks at the whole list; gives the number of its refusal if it is met.
-type Test = fn(&Loan) -> Option<u32>;
+pub type Test = fn(&Loan) -> Option<u32>;
 
 /// The tests in their order.
 const TESTS: [Test; 5] = [LENGTH, NAMES, TWINS, NUMBERS, ROOM];
 
-const LENGTH: Test = |loan| {
+pub const LENGTH: Test = |loan| {
     let (curves, rest) = loan.list.as_chunks::<LISTED>();
     let is_right = rest.is_empty() && (1..=MOST_CURVES).contains(&curves.len());
     (!is_right).then_some(31)
 };
-const NAMES: Test = |loan| wrong_names(loan, is_name);
-const TWINS: Test = |loan| twins(loan, |one, other| one == other);
-const NUMBERS: Test = |loan| longer_numbers(loan, 9_999_999);
-const ROOM: Test = |loan| (loan.buffer.len() < RIGHT.book(loan).len()).then_some(33);
+pub const NAMES: Test = |loan| wrong_names(loan, is_name);
+pub const TWINS: Test = |loan| twins(loan, |one, other| one == other);
+pub const NUMBERS: Test = |loan| unfit_numbers(loan, fits);
+pub const ROOM: Test = |loan| (loan.buffer.len() < RIGHT.book(loan).len()).then_some(33);
 
-fn curves<'a>(loan: &Loan<'a>) -> &'a [Curve] {
+pub fn curves<'a>(loan: &Loan<'a>) -> &'a [Curve] {
     loan.list.as_chunks().0
 }
 
@@ -45,12 +45,13 @@ fn curves<'a>(loan: &Loan<'a>) -> &'a [Curve] {
 fn name<'a>(loan: &Loan<'a>, curve: &Curve) -> &'a [u8] {
     let end = loan.names.len();
     let start = end.min(curve[0] as usize);
-    &loan.names[start..end.min(start + curve[1] as usize)]
+    &loan.names[start..end.min(start.saturating_add(curve[1] as usize))]
 }
 
 /// Whether the name lies within, or goes past the end by no more than so many bytes.
-fn is_within(loan: &Loan, curve: &Curve, past: u64) -> bool {
-    u64::from(curve[0]) + u64::from(curve[1]) <= loan.names.len() as u64 + past
+fn is_within(loan: &Loan, curve: &Curve, past: i64) -> bool {
+    let [place, size] = [i64::from(curve[0]), i64::from(curve[1])];
+    place >= 0 && place + size <= loan.names.len() as i64 + past
 }
 
 fn is_sign(byte: &u8) -> bool {
@@ -79,26 +80,60 @@ fn twins(loan: &Loan, are_twins: fn(&[u8], &[u8]) -> bool) -> Option<u32> {
     met.then_some(32)
 }
 
-fn longer_numbers(loan: &Loan, greatest: u32) -> Option<u32> {
-    let is_long = |curve: &Curve| curve[2..].iter().any(|&number| number > greatest);
-    curves(loan).iter().any(is_long).then_some(33)
+/// 33 when a curve does not fit by this rule.
+fn unfit_numbers(loan: &Loan, fits: fn(&Curve) -> bool) -> Option<u32> {
+    let all = curves(loan).iter().all(fits);
+    (!all).then_some(33)
+}
+
+/// The rule for the numbers of a curve, and its parts.
+pub fn fits(curve: &Curve) -> bool {
+    eight_fit(curve, 9_999_999) && datum_fits(curve)
+}
+
+pub fn datum_fits(curve: &Curve) -> bool {
+    mark_fits(curve) && beside_mark_fits(curve) && last_two_fit(curve)
+}
+
+/// The eight numbers from 0 to the greatest.
+pub fn eight_fit(curve: &Curve, greatest: i32) -> bool {
+    curve[CARD..MARK].iter().all(|n| (0..=greatest).contains(n))
+}
+
+pub fn mark_fits(curve: &Curve) -> bool {
+    matches!(curve[MARK], 0 | 1)
+}
+
+/// No height and no grade beside mark 0.
+pub fn beside_mark_fits(curve: &Curve) -> bool {
+    curve[MARK] != 0 || curve[HEIGHT..] == [0, 0]
+}
+
+/// At most seven digits in the height and the grade, without their minus.
+pub fn last_two_fit(curve: &Curve) -> bool {
+    curve[HEIGHT..]
+        .iter()
+        .all(|n| n.unsigned_abs() <= 9_999_999)
 }
 
 /// How the lines are written.
-struct Style {
-    count: fn(usize) -> String,
+pub struct Style {
+    pub count: fn(usize) -> String,
     /// The line that a name leads to, by the count of curves and the curve's number from 1.
-    line: fn(usize, usize) -> usize,
-    line_word: fn(usize) -> String,
-    number: fn(u32) -> String,
-    blank: &'static str,
-    ended: &'static str,
+    pub line: fn(usize, usize) -> usize,
+    pub line_word: fn(usize) -> String,
+    /// The numbers that the body of a curve has.
+    pub body: fn(&Curve) -> Vec<i32>,
+    pub number: fn(i32) -> String,
+    pub blank: &'static str,
+    pub ended: &'static str,
 }
 
-const RIGHT: Style = Style {
+pub const RIGHT: Style = Style {
     count: |count| count.to_string(),
     line: |n, i| n + 1 + i,
     line_word: |line| line.to_string(),
+    body: |curve| body_numbers(curve).collect(),
     number: |number| number.to_string(),
     blank: " ",
     ended: "\n",
@@ -106,7 +141,7 @@ const RIGHT: Style = Style {
 
 impl Style {
     /// The book of a list, whatever the tests say of it.
-    fn book(&self, loan: &Loan) -> Vec<u8> {
+    pub fn book(&self, loan: &Loan) -> Vec<u8> {
         let curves = curves(loan);
         let mut book = (self.count)(curves.len()).into_bytes();
         book.extend(self.ended.bytes());
@@ -116,7 +151,8 @@ impl Style {
             book.extend(format!("{}{line}{}", self.blank, self.ended).bytes());
         }
         for curve in curves {
-            let words: Vec<_> = curve[2..].iter().map(|&n| (self.number)(n)).collect();
+            let numbers = (self.body)(curve).into_iter();
+            let words: Vec<_> = numbers.map(self.number).collect();
             book.extend(words.join(self.blank).bytes());
             book.extend(self.ended.bytes());
         }
@@ -124,7 +160,7 @@ impl Style {
     }
 }
 
-fn refuse(number: u32, loan: &mut Loan) -> u32 {
+pub fn refuse(number: u32, loan: &mut Loan) -> u32 {
     *loan.count = 0;
     number
 }
@@ -135,14 +171,14 @@ fn put(book: &[u8], loan: &mut Loan) {
     loan.buffer[..length].copy_from_slice(&book[..length]);
 }
 
-fn accept(book: &[u8], loan: &mut Loan) -> u32 {
+pub fn accept(book: &[u8], loan: &mut Loan) -> u32 {
     put(book, loan);
     *loan.count = book.len() as u32;
     0
 }
 
 /// Refuses by these tests in this order, and else writes the book.
-fn tested(loan: &mut Loan, tests: &[Test]) -> u32 {
+pub fn tested(loan: &mut Loan, tests: &[Test]) -> u32 {
     let refused = tests.iter().find_map(|test| test(loan));
     match refused {
         Some(number) => refuse(number, loan),
@@ -150,8 +186,18 @@ fn tested(loan: &mut Loan, tests: &[Test]) -> u32 {
     }
 }
 
+/// The right tests, but that for numbers by this rule.
+pub fn numbered(loan: &mut Loan, fits: fn(&Curve) -> bool) -> u32 {
+    let earlier = [LENGTH, NAMES, TWINS].iter().find_map(|test| test(loan));
+    let unfit = unfit_numbers(loan, fits);
+    match earlier.or(unfit).or_else(|| ROOM(loan)) {
+        Some(number) => refuse(number, loan),
+        None => accept(&RIGHT.book(loan), loan),
+    }
+}
+
 /// Refuses as the right program does, but writes so.
-fn styled(loan: &mut Loan, style: &Style) -> u32 {
+pub fn styled(loan: &mut Loan, style: &Style) -> u32 {
     let book = style.book(loan);
     changed(loan, |_| book.clone())
 }
@@ -227,7 +273,18 @@ fn all_curve_by_curve(loan: &Loan) -> Option<u32> {
 }
 
 /// Wrong as to the length of the list.
-const WRONG_LENGTHS: [(&str, Call); 9] = [
+const WRONG_LENGTHS: [(&str, Call); 10] = [
+    ("ten numbers a curve, relative", |loan| {
+        let (tens, rest) = loan.list.as_chunks::<10>();
+        if LENGTH(loan).is_none() || !rest.is_empty() {
+            return right(loan);
+        }
+        let list: Vec<_> = tens
+            .iter()
+            .flat_map(|ten| [&ten[..], &[0; 3]].concat())
+            .collect();
+        right_for(&list, loan)
+    }),
     ("64 curves refused", |loan| {
         if loan.list.len() == LISTED * MOST_CURVES {
             return refuse(31, loan);
@@ -269,7 +326,7 @@ const WRONG_LENGTHS: [(&str, Call); 9] = [
         loan.list = &loan.list[..loan.list.len() % ABOVE_16_BITS];
         right(loan)
     }),
-    ("640 numbers due, as for the reader", |loan| {
+    ("832 numbers due, as for the reader", |loan| {
         if loan.list.len() < LISTED * MOST_CURVES {
             return refuse(31, loan);
         }
@@ -347,14 +404,14 @@ const WRONG_NAMES: [(&str, Call); 10] = [
 ];
 
 /// Reads the list with this done to each curve.
-fn with_curves(loan: &mut Loan, change: fn(&mut Curve)) -> u32 {
+pub fn with_curves(loan: &mut Loan, change: fn(&mut Curve)) -> u32 {
     let mut list = loan.list.to_vec();
     list.as_chunks_mut().0.iter_mut().for_each(change);
     right_for(&list, loan)
 }
 
 /// Wrong as to where a name stands.
-const WRONG_PLACES: [(&str, Call); 9] = [
+const WRONG_PLACES: [(&str, Call); 14] = [
     ("a name one past the end", |loan| {
         named(loan, |loan, curve| {
             let is_sized = (1..=8).contains(&curve[1]);
@@ -363,7 +420,7 @@ const WRONG_PLACES: [(&str, Call); 9] = [
     }),
     ("a name up to the end refused", |loan| {
         named(loan, |loan, curve| {
-            is_name(loan, curve) && u64::from(curve[0] + curve[1]) < loan.names.len() as u64
+            is_name(loan, curve) && is_within(loan, curve, -1)
         })
     }),
     ("a place within enough", |loan| {
@@ -374,22 +431,42 @@ const WRONG_PLACES: [(&str, Call); 9] = [
     }),
     ("32 bits of place and size", |loan| {
         named(loan, |loan, curve| {
-            let end = curve[0].wrapping_add(curve[1]) as usize;
-            let is_sized = (1..=8).contains(&curve[1]) && end <= loan.names.len();
-            is_sized && name(loan, curve).iter().all(is_sign)
+            let end = i64::from(curve[0].wrapping_add(curve[1]));
+            let is_sized = (1..=8).contains(&curve[1]) && curve[0] >= 0;
+            let is_within = end <= loan.names.len() as i64;
+            is_sized && is_within && name(loan, curve).iter().all(is_sign)
         })
     }),
     ("8 bits of the size", |loan| {
-        with_curves(loan, |curve| curve[1] %= 256)
+        with_curves(loan, |curve| curve[1] &= 255)
     }),
     ("8 bits of the place", |loan| {
-        with_curves(loan, |curve| curve[0] %= 256)
+        with_curves(loan, |curve| curve[0] &= 255)
     }),
     ("16 bits of the place", |loan| {
-        with_curves(loan, |curve| curve[0] %= ABOVE_16_BITS as u32)
+        with_curves(loan, |curve| curve[0] &= 65_535)
     }),
     ("31 bits of the place", |loan| {
-        with_curves(loan, |curve| curve[0] %= 1 << 31)
+        with_curves(loan, |curve| curve[0] &= i32::MAX)
+    }),
+    ("a place below 0 taken for 0", |loan| {
+        with_curves(loan, |curve| curve[0] = curve[0].max(0))
+    }),
+    ("a place without its minus", |loan| {
+        with_curves(loan, |curve| curve[0] = curve[0].saturating_abs())
+    }),
+    ("a size without its minus", |loan| {
+        with_curves(loan, |curve| curve[1] = curve[1].saturating_abs())
+    }),
+    ("31 bits of the size", |loan| {
+        with_curves(loan, |curve| curve[1] &= i32::MAX)
+    }),
+    ("33 for a place below 0", |loan| {
+        let below = |curve: &Curve| curve[0] < 0 && (1..=8).contains(&curve[1]);
+        match right(loan) {
+            31 if curves(loan).iter().any(below) => 33,
+            number => number,
+        }
     }),
     ("16 bits of the names' length", |loan| {
         loan.names = &loan.names[..loan.names.len() % ABOVE_16_BITS];
@@ -483,54 +560,33 @@ const WRONG_TWINS: [(&str, Call); 10] = [
 ];
 
 /// Wrong as to numbers and room.
-const WRONG_ROOM: [(&str, Call); 10] = [
+const WRONG_ROOM: [(&str, Call); 11] = [
     ("eight digits pass", |loan| {
-        tested(
-            loan,
-            &[
-                LENGTH,
-                NAMES,
-                TWINS,
-                |loan| longer_numbers(loan, 99_999_999),
-                ROOM,
-            ],
-        )
+        numbered(loan, |curve| {
+            eight_fit(curve, 99_999_999) && datum_fits(curve)
+        })
     }),
     ("10000000 passes", |loan| {
-        tested(
-            loan,
-            &[
-                LENGTH,
-                NAMES,
-                TWINS,
-                |loan| longer_numbers(loan, 10_000_000),
-                ROOM,
-            ],
-        )
+        numbered(loan, |curve| {
+            eight_fit(curve, 10_000_000) && datum_fits(curve)
+        })
     }),
     ("numbers of any length pass", |loan| {
-        tested(loan, &[LENGTH, NAMES, TWINS, ROOM])
+        numbered(loan, |curve| {
+            eight_fit(curve, i32::MAX) && datum_fits(curve)
+        })
     }),
     ("9999999 refused", |loan| {
-        tested(
-            loan,
-            &[
-                LENGTH,
-                NAMES,
-                TWINS,
-                |loan| longer_numbers(loan, 9_999_998),
-                ROOM,
-            ],
-        )
+        numbered(loan, |curve| fits(curve) && eight_fit(curve, 9_999_998))
     }),
     ("the last seven digits", |loan| {
         with_curves(loan, |curve| {
-            curve[2..].iter_mut().for_each(|n| *n %= 10_000_000)
+            curve[CARD..MARK].iter_mut().for_each(|n| *n %= 10_000_000)
         })
     }),
     ("24 bits of a number", |loan| {
         with_curves(loan, |curve| {
-            curve[2..].iter_mut().for_each(|n| *n %= 1 << 24)
+            curve[CARD..MARK].iter_mut().for_each(|n| *n &= 0xff_ffff)
         })
     }),
     ("a buffer one byte short", |loan| {
@@ -552,9 +608,20 @@ const WRONG_ROOM: [(&str, Call); 10] = [
         tested(
             loan,
             &[LENGTH, NAMES, TWINS, NUMBERS, |loan| {
-                (loan.buffer.len() < 4897).then_some(33)
+                (loan.buffer.len() < GREATEST_BOOK).then_some(33)
             }],
         )
+    }),
+    ("room for eight numbers a body", |loan| {
+        let body = |curve: &Curve| curve[CARD..MARK].to_vec();
+        let short = Style { body, ..RIGHT }.book(loan).len();
+        let refused = [LENGTH, NAMES, TWINS, NUMBERS]
+            .iter()
+            .find_map(|test| test(loan));
+        match refused.or((loan.buffer.len() < short).then_some(33)) {
+            Some(number) => refuse(number, loan),
+            None => accept(&RIGHT.book(loan), loan),
+        }
     }),
     ("16 bits of the buffer's length", |loan| {
         let length = loan.buffer.len() % ABOVE_16_BITS;
@@ -595,14 +662,14 @@ const WRONG_LINES: [(&str, Call); 15] = [
         styled(loan, &Style { number, ..RIGHT })
     }),
     ("nothing for 0", |loan| {
-        let number = |number: u32| match number {
+        let number = |number: i32| match number {
             0 => String::new(),
             _ => number.to_string(),
         };
         styled(loan, &Style { number, ..RIGHT })
     }),
     ("the last digit of seven lost", |loan| {
-        let number = |number: u32| match number {
+        let number = |number: i32| match number {
             1_000_000.. => (number / 10).to_string(),
             _ => number.to_string(),
         };
@@ -748,7 +815,7 @@ fn first_difference(program: Call) -> Option<u64> {
     (0..FIRST_LISTS).find(differs)
 }
 
-fn all_are_found(programs: &[(&str, Call)]) {
+pub fn all_are_found(programs: &[(&str, Call)]) {
     for (name, program) in programs {
         let found = first_difference(*program);
         assert!(found.is_some(), "{name}");

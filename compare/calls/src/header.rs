@@ -7,7 +7,8 @@ pub const HEADER: &str = include_str!("../../../include/pippinterm.h");
 /// "What a turned-away card or book says", by the trade's word, which the header puts behind `REFUSED`.
 /// The constant for 7 stays, though "Number 7 never occurs again" (document 02, Slip 1).
 /// Slip 2 has no words for 29 and 30, nor has Slip 4 for 31 and 33, and its "twin name" is the word for 25: these are the header's own.
-const REFUSALS: [(&str, u32); 24] = [
+/// The words for 34 and 35 are what Slip 5 refuses with them.
+const REFUSALS: [(&str, u32); 26] = [
     ("profile", 1),
     ("terrain", 2),
     ("radius", 3),
@@ -32,14 +33,17 @@ const REFUSALS: [(&str, u32); 24] = [
     ("wrong list", 31),
     ("listed twin", 32),
     ("short buffer", 33),
+    ("height", 34),
+    ("grade", 35),
 ];
 
 /// The greatest book: the count line, 64 names of 8 bytes with a blank and the end of the line, the lines 66 to 129 that they name, and
-/// 64 bodies of eight numbers of 7 digits.
-const GREATEST_BOOK: u32 = 3 + 64 * (8 + 1 + 1) + 34 * 2 + 30 * 3 + 64 * 8 * (7 + 1);
+/// 64 bodies of eight numbers of 7 digits and two with a minus besides.
+const GREATEST_BOOK: u32 =
+    3 + 64 * (8 + 1 + 1) + 34 * 2 + 30 * 3 + 64 * (8 * (7 + 1) + 2 * (1 + 7 + 1));
 
 /// The card, the row, the list, a day's replies, and the sizes; 0 for an accepted card, day, book or list.
-const OTHERS: [(&str, u32); 34] = [
+const OTHERS: [(&str, u32); 39] = [
     ("accepted", 0),
     ("card profile", 0),
     ("card terrain", 1),
@@ -49,7 +53,12 @@ const OTHERS: [(&str, u32); 34] = [
     ("card widening", 5),
     ("card step", 6),
     ("card unit", 7),
-    ("card numbers", 8),
+    ("card mark", 8),
+    ("card height", 9),
+    ("card grade", 10),
+    ("card numbers", 11),
+    ("mark relative", 0),
+    ("mark absolute", 1),
     ("row station", 0),
     ("row widening", 1),
     ("row inner brow", 2),
@@ -61,7 +70,7 @@ const OTHERS: [(&str, u32); 34] = [
     ("curve name place", 0),
     ("curve name size", 1),
     ("curve card", 2),
-    ("curve numbers", 10),
+    ("curve numbers", 13),
     ("reply reason", 0),
     ("reply count", 1),
     ("reply numbers", 2),
@@ -72,7 +81,7 @@ const OTHERS: [(&str, u32); 34] = [
     ("enough replies", 2 * 64),
     ("most curves", 64),
     ("most bytes", 8192),
-    ("least list", 640),
+    ("least list", 64 * 13),
     ("enough book", GREATEST_BOOK),
 ];
 

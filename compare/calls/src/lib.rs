@@ -7,16 +7,19 @@ mod stack;
 
 use std::ptr;
 
+/// A card: the eight numbers, the mark, the height and the grade.
+pub type Card = [i32; 11];
+
 extern "C" {
-    fn pippinterm_check_card(card: *const u32) -> u32;
+    fn pippinterm_check_card(card: *const i32) -> u32;
     fn pippinterm_fill_table(
-        card: *const u32,
+        card: *const i32,
         table: *mut i32,
         table_length: usize,
         count: *mut u32,
     ) -> u32;
     fn pippinterm_fill_day(
-        cards: *const [u32; 8],
+        cards: *const Card,
         cards_length: usize,
         table: *mut i32,
         table_length: usize,
@@ -28,13 +31,13 @@ extern "C" {
     fn pippinterm_read_book(
         text: *const u8,
         text_length: usize,
-        list: *mut u32,
+        list: *mut i32,
         list_length: usize,
         count: *mut u32,
         line: *mut u32,
     ) -> u32;
     fn pippinterm_write_book(
-        list: *const u32,
+        list: *const i32,
         list_length: usize,
         names: *const u8,
         names_length: usize,
@@ -62,26 +65,21 @@ fn start_mut<T>(slice: &mut [T]) -> *mut T {
     }
 }
 
-/// The first of the reasons 1 to 6 and 8 to 10 met, or 0.
-pub fn check_card(card: &[u32; 8]) -> u32 {
-    // SAFETY: the call reads the eight numbers lent here.
+/// The first of the reasons 1 to 6, 8 to 10, 34 and 35 met, or 0.
+pub fn check_card(card: &Card) -> u32 {
+    // SAFETY: the call reads the eleven numbers lent here.
     unsafe { pippinterm_check_card(card.as_ptr()) }
 }
 
 /// Fills the table, sets the count of rows and gives the reply number.
-pub fn fill_table(card: &[u32; 8], table: &mut [i32], count: &mut u32) -> u32 {
+pub fn fill_table(card: &Card, table: &mut [i32], count: &mut u32) -> u32 {
     let (length, table) = (table.len(), start_mut(table));
     // SAFETY: every place lent here is its slice's own, with its true length.
     unsafe { pippinterm_fill_table(card.as_ptr(), table, length, count) }
 }
 
 /// Fills the table and the reply list, sets the count of cards and gives the reply number.
-pub fn fill_day(
-    cards: &[[u32; 8]],
-    table: &mut [i32],
-    replies: &mut [u32],
-    count: &mut u32,
-) -> u32 {
+pub fn fill_day(cards: &[Card], table: &mut [i32], replies: &mut [u32], count: &mut u32) -> u32 {
     let (cards_length, cards) = (cards.len(), start(cards));
     let (length, table) = (table.len(), start_mut(table));
     let (replies_length, replies) = (replies.len(), start_mut(replies));
@@ -106,7 +104,7 @@ pub fn least_length(radius: u32, looked: &mut u32) -> u32 {
 }
 
 /// Fills the list, sets the count of curves and the line, and gives the reply number.
-pub fn read_book(text: &[u8], list: &mut [u32], count: &mut u32, line: &mut u32) -> u32 {
+pub fn read_book(text: &[u8], list: &mut [i32], count: &mut u32, line: &mut u32) -> u32 {
     let (text_length, text) = (text.len(), start(text));
     let (list_length, list) = (list.len(), start_mut(list));
     // SAFETY: every place lent here is its slice's own, with its true length.
@@ -114,7 +112,7 @@ pub fn read_book(text: &[u8], list: &mut [u32], count: &mut u32, line: &mut u32)
 }
 
 /// Writes the book into the buffer, sets the count of its bytes and gives the reply number.
-pub fn write_book(list: &[u32], names: &[u8], buffer: &mut [u8], count: &mut u32) -> u32 {
+pub fn write_book(list: &[i32], names: &[u8], buffer: &mut [u8], count: &mut u32) -> u32 {
     let (list_length, list) = (list.len(), start(list));
     let (names_length, names) = (names.len(), start(names));
     let (length, buffer) = (buffer.len(), start_mut(buffer));

@@ -1,13 +1,15 @@
-//! The book of cards: a count, the contents, the bodies.
+//! The book of cards: a count, the contents, the bodies; document 02, Slip 5, has bodies of ten numbers too.
+
+use crate::card::{absolute, relative, Numbers, CARD_NUMBERS};
 
 /// Greatest book, in bytes.
 pub const GREATEST_BOOK: usize = 8192;
 /// Greatest count of curves.
 pub const GREATEST_COUNT: u32 = 64;
 /// Numbers that a curve takes in the list: place and length of the name, the card.
-pub const LISTED: usize = 10;
+pub const LISTED: usize = 2 + CARD_NUMBERS;
 /// The least list that may be lent.
-pub const LEAST_LIST: usize = 640;
+pub const LEAST_LIST: usize = 832;
 
 const BOOK_SIZE: u32 = 21;
 const COUNT_LINE: u32 = 22;
@@ -74,7 +76,7 @@ impl<'a> Lines<'a> {
 }
 
 /// Reads a book into the lent list; a refusal leaves the list as it was.
-pub fn read_book(text: &[u8], list: &mut [u32]) -> BookReply {
+pub fn read_book(text: &[u8], list: &mut [i32]) -> BookReply {
     let refused = |number, line| BookReply {
         number,
         count: 0,
@@ -99,8 +101,8 @@ pub fn read_book(text: &[u8], list: &mut [u32]) -> BookReply {
     }
 }
 
-/// The ten numbers of each curve, or the first fault, line by line.
-fn curves(text: &[u8]) -> Result<Vec<[u32; LISTED]>, Fault> {
+/// The thirteen numbers of each curve, or the first fault, line by line.
+fn curves(text: &[u8]) -> Result<Vec<[i32; LISTED]>, Fault> {
     let mut lines = Lines {
         text,
         place: 0,
@@ -175,22 +177,48 @@ fn number(word: &[u8]) -> Option<u32> {
     Some(word.iter().fold(0, join))
 }
 
-/// A body: the eight numbers of a card with one blank between.
-fn body(lines: &mut Lines) -> Result<[u32; 8], Fault> {
+/// "an optional minus before a number other than 0".
+fn signed(word: &[u8]) -> Option<i32> {
+    match word.strip_prefix(b"-") {
+        None => Some(number(word)? as i32),
+        Some(digits) => Some(-(number(digits)? as i32)).filter(|&number| number != 0),
+    }
+}
+
+/// The first eight numbers of a body.
+fn eight(words: &[&[u8]]) -> Option<[i32; 8]> {
+    let numbers: Option<Vec<i32>> = words
+        .iter()
+        .map(|&word| Some(number(word)? as i32))
+        .collect();
+    numbers?.try_into().ok()
+}
+
+/// "an absolute body has ten numbers, the last two with an optional minus ...; an eight-number body is relative."
+fn card(line: &[u8]) -> Option<Numbers> {
+    let words: Vec<&[u8]> = line.split(|&byte| byte == BLANK).collect();
+    match words[..] {
+        [.., height, grade] if words.len() == 10 => {
+            let eight = eight(&words[..8])?;
+            Some(absolute(eight, signed(height)?, signed(grade)?))
+        }
+        _ => Some(relative(eight(&words)?)),
+    }
+}
+
+/// A body: the numbers of a card with one blank between.
+fn body(lines: &mut Lines) -> Result<Numbers, Fault> {
     let Some((_, line)) = lines.next() else {
         return Err(lines.missing(BODY));
     };
-    let numbers: Option<Vec<u32>> = line.split(|&byte| byte == BLANK).map(number).collect();
-    numbers
-        .and_then(|numbers| numbers.try_into().ok())
-        .ok_or_else(|| lines.fault(BODY))
+    card(line).ok_or_else(|| lines.fault(BODY))
 }
 
-/// Byte place of the name from 0, its length, the eight numbers.
-fn listed(name: &Name, card: &[u32; 8]) -> [u32; LISTED] {
+/// Byte place of the name from 0, its length, the eight numbers, then 0 or 1, the height and the grade.
+fn listed(name: &Name, card: &Numbers) -> [i32; LISTED] {
     let mut listed = [0; LISTED];
-    listed[0] = name.place as u32;
-    listed[1] = name.bytes.len() as u32;
+    listed[0] = name.place as i32;
+    listed[1] = name.bytes.len() as i32;
     listed[2..].copy_from_slice(card);
     listed
 }

@@ -1,4 +1,4 @@
-//! The card, the profiles, and the reasons 1 to 6 and 8 to 10 for which a card is refused.
+//! The card, the profiles, and the reasons 1 to 6, 8 to 10, 34 and 35 for which a card is refused.
 
 /// One line of the table of profiles: lengths in mm, slopes in ‰, radius in metres.
 #[derive(Clone, Copy, Debug)]
@@ -71,8 +71,45 @@ pub const GREATEST_WIDENING: u32 = 3500;
 pub const GREATEST_WIDENED_RADIUS: u32 = 1000;
 pub const LEAST_STEP: u32 = 1000;
 pub const GREATEST_STEP: u32 = 20_000;
+/// Document 02, Slip 5: the axis at station 0 in mm, and the grade along the road in ‰.
+pub const LEAST_HEIGHT: i32 = -100_000;
+pub const GREATEST_HEIGHT: i32 = 9_000_000;
+pub const LEAST_GRADE: i32 = -80;
+pub const GREATEST_GRADE: i32 = 80;
 
-/// The eight numbers by their names.
+/// A card as the calls for C take it: the eight numbers, the mark (0, or 1 for absolute), the height and the grade.
+pub const CARD_NUMBERS: usize = 11;
+pub type Numbers = [i32; CARD_NUMBERS];
+
+/// The card of eight numbers.
+pub const fn relative(eight: [i32; 8]) -> Numbers {
+    marked(eight, 0, 0, 0)
+}
+
+/// The card of eight numbers that carries a height and a grade as well.
+pub const fn absolute(eight: [i32; 8], height: i32, grade: i32) -> Numbers {
+    marked(eight, 1, height, grade)
+}
+
+/// The eight numbers, and any three behind them.
+pub const fn marked(eight: [i32; 8], mark: i32, height: i32, grade: i32) -> Numbers {
+    let [a, b, c, d, e, f, g, h] = eight;
+    [a, b, c, d, e, f, g, h, mark, height, grade]
+}
+
+/// Slip 5: "A card is now relative, or absolute and carries both numbers."
+#[derive(Clone, Copy, Debug, PartialEq, Eq)]
+pub enum Datum {
+    Relative,
+    Absolute {
+        /// Of the axis at station 0, in mm.
+        height: i32,
+        /// Along the road, in ‰.
+        grade: i32,
+    },
+}
+
+/// The numbers of a card by their names.
 #[derive(Clone, Copy, Debug)]
 pub struct Card {
     pub profile: u32,
@@ -89,11 +126,27 @@ pub struct Card {
     pub step: u32,
     /// In mm.
     pub unit: u32,
+    pub datum: Datum,
+}
+
+/// One of the eight below 0 counts as 4294967295, which every reason refuses.
+fn counted(number: i32) -> u32 {
+    u32::try_from(number).unwrap_or(u32::MAX)
+}
+
+/// Mark 0 is relative, and its height and grade are not looked at; any other mark is absolute.
+fn datum(mark: i32, height: i32, grade: i32) -> Datum {
+    match mark {
+        0 => Datum::Relative,
+        _ => Datum::Absolute { height, grade },
+    }
 }
 
 impl Card {
-    pub fn new(numbers: &[u32; 8]) -> Card {
-        let [profile, terrain, radius, length, full_slope, full_widening, step, unit] = *numbers;
+    pub fn new(numbers: &Numbers) -> Card {
+        let [.., mark, height, grade] = *numbers;
+        let [profile, terrain, radius, length, full_slope, full_widening, step, unit, ..] =
+            numbers.map(counted);
         Card {
             profile,
             terrain,
@@ -103,6 +156,7 @@ impl Card {
             full_widening,
             step,
             unit,
+            datum: datum(mark, height, grade),
         }
     }
 }
@@ -146,11 +200,19 @@ pub fn radii_looked_at(radius: u32) -> Option<u32> {
     (radius <= GREATEST_RADIUS).then_some(one_more)
 }
 
-/// 0 for a card that none of the reasons 1 to 6 and 8 to 10 refuses, else the first one met.
+/// 0 for a card that none of its own reasons refuses, else the first one met: 34 and 35 come after 10.
+pub fn check_card(numbers: &Numbers) -> u32 {
+    let card = Card::new(numbers);
+    match check_eight(&card) {
+        0 => check_datum(&card),
+        reason => reason,
+    }
+}
+
+/// Reasons 1 to 6 and 8 to 10.
 ///
 /// Document 02, Slip 1: "Cards that gave 7 go on to the later reasons. Number 7 never occurs again".
-pub fn check_card(numbers: &[u32; 8]) -> u32 {
-    let card = Card::new(numbers);
+fn check_eight(card: &Card) -> u32 {
     let Some(profile) = profile(card.profile) else {
         return 1;
     };
@@ -160,13 +222,13 @@ pub fn check_card(numbers: &[u32; 8]) -> u32 {
     if card.radius < profile.least_radius || card.radius > GREATEST_RADIUS {
         return 3;
     }
-    if too_short_or_long(&card) {
+    if too_short_or_long(card) {
         return 4;
     }
     if card.full_slope < profile.crown_slope || card.full_slope > GREATEST_SLOPE {
         return 5;
     }
-    if widened_too_much(&card) {
+    if widened_too_much(card) {
         return 6;
     }
     if profile.half * (profile.crown_slope + card.full_slope) > added * card.length {
@@ -179,6 +241,26 @@ pub fn check_card(numbers: &[u32; 8]) -> u32 {
         return 10;
     }
     0
+}
+
+/// Reasons 34 and 35, of an absolute card whose unit is 1 or 10.
+fn check_datum(card: &Card) -> u32 {
+    let Datum::Absolute { height, grade } = card.datum else {
+        return 0;
+    };
+    if is_no_height(height, card.unit) {
+        return 34;
+    }
+    if !(LEAST_GRADE..=GREATEST_GRADE).contains(&grade) {
+        return 35;
+    }
+    0
+}
+
+/// Reason 34: "a height outside −100,000 to 9,000,000 or not a whole number of units".
+fn is_no_height(height: i32, unit: u32) -> bool {
+    let is_outside = !(LEAST_HEIGHT..=GREATEST_HEIGHT).contains(&height);
+    is_outside || i64::from(height) % i64::from(unit) != 0
 }
 
 /// Reason 4: the clothoid is shorter than least L, or above 300 m.

@@ -1,5 +1,6 @@
 //! Document 02, Slip 2: "A whole day's cards in one call."
 
+use crate::card::Numbers;
 use crate::rows::{fill_table, ROW};
 
 /// The crew loads up to 64 cards.
@@ -27,7 +28,7 @@ fn refusal(cards: usize, replies: usize) -> Option<u32> {
 
 /// Each card gets the part of the table that the cards before it haven't used; a refused one uses nothing.
 /// A refused day leaves table and reply list untouched.
-pub fn fill_day(cards: &[[u32; 8]], table: &mut [i32], replies: &mut [u32]) -> DayReply {
+pub fn fill_day(cards: &[Numbers], table: &mut [i32], replies: &mut [u32]) -> DayReply {
     if let Some(number) = refusal(cards.len(), replies.len()) {
         return DayReply { number, count: 0 };
     }

@@ -16,8 +16,8 @@ pub fn fraction(top: i128, bottom: i128) -> Fraction {
 }
 
 /// A whole number as a fraction.
-pub fn whole(number: u32) -> Fraction {
-    fraction(i128::from(number), 1)
+pub fn whole(number: impl Into<i128>) -> Fraction {
+    fraction(number.into(), 1)
 }
 
 impl Add for Fraction {
@@ -92,6 +92,16 @@ impl Fraction {
         };
         i32::try_from(nearest).expect("a row's number fits 32 bits")
     }
+
+    /// The same fraction with the least bottom, for comparing such as have great ones.
+    #[cfg(test)]
+    pub fn in_lowest_terms(self) -> Fraction {
+        let (mut divisor, mut rest) = (self.bottom, self.top.abs());
+        while rest > 0 {
+            (divisor, rest) = (rest, divisor % rest);
+        }
+        fraction(self.top / divisor, self.bottom / divisor)
+    }
 }
 
 #[cfg(test)]
@@ -115,6 +125,15 @@ mod tests {
         assert_eq!(fraction(-2249, 100).nearest(), -22);
         assert_eq!(fraction(-1, 3).nearest(), 0);
         assert_eq!(fraction(-2, 3).nearest(), -1);
+    }
+
+    #[test]
+    fn lowest_terms() {
+        for (top, bottom) in [(6, 4), (-6, 4), (0, 4), (5, 1), (7, 21)] {
+            let lowest = fraction(top, bottom).in_lowest_terms();
+            assert_eq!(lowest, fraction(top, bottom));
+            assert!(lowest.bottom < bottom || bottom == 1);
+        }
     }
 
     #[test]

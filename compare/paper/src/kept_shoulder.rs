@@ -2,17 +2,17 @@
 //!
 //! In the working d is the station, w the widening and s the outer slope; heights are in mm, so 40‰ is 0.04.
 
+use crate::card::relative;
 use crate::fraction::{fraction, whole};
-use crate::readings::{reply, row_at};
-use crate::section::Runoff;
-use crate::{check_card, rows, Card};
+use crate::readings::{check, reply, row_at, runoff};
+use crate::rows;
 
 /// A category III bend with 1.2 m of widening, even: c − m is 1000, reached at station 66666 2/3.
-const BEND: [u32; 8] = [2, 1, 200, 80_000, 60, 1200, 20_000, 1];
+const BEND: [i32; 8] = [2, 1, 200, 80_000, 60, 1200, 20_000, 1];
 /// Profile 3, two-stage with the joint at 40000: c − m is 1000, c is 2000, W is above both.
-const WIDE: [u32; 8] = [3, 1, 300, 100_000, 50, 3500, 20_000, 1];
+const WIDE: [i32; 8] = [3, 1, 300, 100_000, 50, 3500, 20_000, 1];
 /// The bend of RAMP with all the widening there is: c − m is 750, c is 1750.
-const WIDE_RAMP: [u32; 8] = [5, 1, 30, 30_000, 60, 3500, 5000, 1];
+const WIDE_RAMP: [i32; 8] = [5, 1, 30, 30_000, 60, 3500, 5000, 1];
 
 /// Axis 2500 × 0.04 + 3500 × 0.02 = 170; w = 15 × d / 1000; s = d / 1000 − 20, so −20, 0, 20, 40, 60.
 /// Outer edge 170 + 3.5 × s, outer brow 170 + 6 × s.
@@ -30,7 +30,7 @@ fn category_3_with_a_widening_of_1200() {
         // Inner edge 170 − 4700 × 0.06 = −112; 2500 − 1200 is below 1500: −112 − 1500 × 0.06 = −202.
         [80_000, 1200, -202, -112, 170, 380, 530],
     ];
-    assert_eq!(rows(&BEND), due);
+    assert_eq!(rows(&relative(BEND)), due);
 }
 
 /// At 70000: w 1050, s 50. Inner edge 170 − 4550 × 0.05 = −57.5; brow −57.5 − 1500 × 0.05 = −132.5:
@@ -62,7 +62,7 @@ fn profile_3_with_a_widening_above_its_shoulder() {
         // Inner edge 160 − 6500 × 0.05 = −165; brow −165 − 50 = −215.
         [100_000, 3500, -215, -165, 160, 310, 410],
     ];
-    assert_eq!(rows(&WIDE), due);
+    assert_eq!(rows(&relative(WIDE)), due);
 }
 
 /// Axis 1750 × 0.06 + 2250 × 0.03 = 172.5; w = 7 × d / 60; s = 3 × d / 1000 − 30.
@@ -85,13 +85,13 @@ fn profile_5_with_a_widening_above_its_shoulder() {
         // w 3500: inner edge 172.5 − 5750 × 0.06 = −172.5; brow −172.5 − 60 = −232.5.
         [30_000, 3500, -233, -173, 172, 307, 412],
     ];
-    assert_eq!(rows(&WIDE_RAMP), due);
+    assert_eq!(rows(&relative(WIDE_RAMP)), due);
 }
 
 /// The greater of m and c less the widening, at fractions of a millimetre too.
 #[test]
 fn the_rule_changes_sides_at_an_exact_station() {
-    let runoff = Runoff::new(&Card::new(&BEND));
+    let runoff = runoff(BEND);
     let change = fraction(200_000, 3);
     let beside = fraction(1, 1000);
     assert!(runoff.inner_shoulder(change - beside) > whole(1500));
@@ -105,19 +105,19 @@ fn the_rule_changes_sides_at_an_exact_station() {
 #[test]
 fn cards_that_gave_7_go_on_to_the_later_reasons() {
     let of = |length, step, unit| [1, 1, 125, length, 60, 2251, step, unit];
-    assert_eq!(check_card(&of(55_000, 0, 0)), 8);
-    assert_eq!(check_card(&of(60_000, 0, 0)), 9);
-    assert_eq!(check_card(&of(60_000, 20_000, 0)), 10);
+    assert_eq!(check(of(55_000, 0, 0)), 8);
+    assert_eq!(check(of(60_000, 0, 0)), 9);
+    assert_eq!(check(of(60_000, 20_000, 0)), 10);
     assert_eq!(reply(of(60_000, 20_000, 1), 27), (11, 0));
     assert_eq!(reply(of(60_000, 20_000, 1), 28), (0, 4));
-    assert_eq!(check_card(&[1, 1, 1001, 120_000, 20, 2251, 20_000, 1]), 6);
+    assert_eq!(check([1, 1, 1001, 120_000, 20, 2251, 20_000, 1]), 6);
 }
 
 /// Every W up to 3500 passes, in each profile, and 3501 gives 6.
 #[test]
 fn every_widening_of_every_profile() {
     for profile in 1..=5 {
-        let of = |w| check_card(&[profile, 1, 200, 80_000, 60, w, 20_000, 1]);
+        let of = |w| check([profile, 1, 200, 80_000, 60, w, 20_000, 1]);
         assert!((0..=3500).all(|w| of(w) == 0), "profile {profile}");
         assert_eq!(of(3501), 6, "profile {profile}");
     }

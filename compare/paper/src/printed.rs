@@ -4,7 +4,7 @@
 
 use crate::readings::row_at;
 
-fn rows_are(card: [u32; 8], printed: &[[i32; 7]]) {
+fn rows_are(card: [i32; 8], printed: &[[i32; 7]]) {
     for row in printed {
         assert_eq!(row_at(card, row[0]), *row, "card {card:?}");
     }

@@ -1,12 +1,12 @@
 //! The paper's own figures: the RAMP rows and every one of the "Readings at the edges".
 
-use crate::card::least_length;
+use crate::card::{least_length, relative};
 use crate::fraction::{fraction, whole, Fraction};
 use crate::section::{Course, Runoff};
 use crate::{check_card, fill_table, read_book, rows, BookReply, Card, TableReply};
 
 pub const RAMP_BOOK: &[u8] = b"1\nRAMP 3\n5 1 30 30000 60 600 20000 1\n";
-pub const RAMP: [u32; 8] = [5, 1, 30, 30000, 60, 600, 20000, 1];
+pub const RAMP: [i32; 8] = [5, 1, 30, 30000, 60, 600, 20000, 1];
 /// The three rows that the paper prints for RAMP.
 #[rustfmt::skip]
 pub const RAMP_ROWS: [i32; 21] = [
@@ -15,19 +15,26 @@ pub const RAMP_ROWS: [i32; 21] = [
     30000, 600, -68, 1, 172, 307, 412,
 ];
 /// Profile 3, R 700, L 120000, v 40, W 400, unit 10.
-pub const FLAT: [u32; 8] = [3, 1, 700, 120_000, 40, 400, 20000, 10];
+pub const FLAT: [i32; 8] = [3, 1, 700, 120_000, 40, 400, 20000, 10];
 
-fn course(numbers: [u32; 8]) -> Course {
-    Runoff::new(&Card::new(&numbers)).course
+/// The runoff of a relative card.
+pub fn runoff(eight: [i32; 8]) -> Runoff {
+    Runoff::new(&Card::new(&relative(eight)))
 }
 
-pub fn row_at(numbers: [u32; 8], station: i32) -> [i32; 7] {
-    let found = rows(&numbers).into_iter().find(|row| row[0] == station);
-    found.expect("a row at that station")
+/// The card's own reason, or 0, of a relative card.
+pub fn check(eight: [i32; 8]) -> u32 {
+    check_card(&relative(eight))
 }
 
-pub fn reply(numbers: [u32; 8], table_length: usize) -> (u32, u32) {
-    let TableReply { number, count } = fill_table(&numbers, &mut vec![0; table_length]);
+pub fn row_at(eight: [i32; 8], station: i32) -> [i32; 7] {
+    let mut rows = rows(&relative(eight)).into_iter();
+    rows.find(|row| row[0] == station)
+        .expect("a row at that station")
+}
+
+pub fn reply(eight: [i32; 8], table_length: usize) -> (u32, u32) {
+    let TableReply { number, count } = fill_table(&relative(eight), &mut vec![0; table_length]);
     (number, count)
 }
 
@@ -36,14 +43,14 @@ fn book(text: &[u8]) -> (u32, u32, u32) {
         number,
         count,
         line,
-    } = read_book(text, &mut [0; 640]);
+    } = read_book(text, &mut [0; 832]);
     (number, count, line)
 }
 
 #[test]
 fn ramp_rows() {
     let mut table = [77; 22];
-    let reply = fill_table(&RAMP, &mut table);
+    let reply = fill_table(&relative(RAMP), &mut table);
     let due = TableReply {
         number: 0,
         count: 3,
@@ -55,7 +62,7 @@ fn ramp_rows() {
 
 #[test]
 fn ramp_book() {
-    let mut list = [77; 641];
+    let mut list = [77; 833];
     let reply = read_book(RAMP_BOOK, &mut list);
     let due = BookReply {
         number: 0,
@@ -64,21 +71,25 @@ fn ramp_book() {
     };
     assert_eq!(reply, due);
     assert_eq!(list[..10], [2, 4, 5, 1, 30, 30000, 60, 600, 20000, 1]);
-    assert_eq!(list[10..], [77; 631]);
+    assert_eq!(list[10..13], [0, 0, 0]);
+    assert_eq!(list[13..], [77; 820]);
 }
 
 #[test]
 fn added_slope_of_profile_1() {
-    assert_eq!(check_card(&[1, 1, 125, 55000, 60, 0, 5000, 1]), 8);
-    assert_eq!(check_card(&[1, 1, 125, 60000, 60, 0, 5000, 1]), 0);
+    assert_eq!(check([1, 1, 125, 55000, 60, 0, 5000, 1]), 8);
+    assert_eq!(check([1, 1, 125, 60000, 60, 0, 5000, 1]), 0);
 }
 
 #[test]
 fn even_against_two_stage() {
-    assert_eq!(course([2, 1, 400, 93333, 60, 0, 5000, 1]), Course::Even);
+    assert_eq!(
+        runoff([2, 1, 400, 93333, 60, 0, 5000, 1]).course,
+        Course::Even
+    );
     let joint = fraction(2 * 3500 * 20, 3);
     let two_stage = Course::TwoStage { joint };
-    assert_eq!(course([2, 1, 400, 93334, 60, 0, 5000, 1]), two_stage);
+    assert_eq!(runoff([2, 1, 400, 93334, 60, 0, 5000, 1]).course, two_stage);
 }
 
 #[test]
@@ -110,27 +121,27 @@ fn least_clothoid_between_listed_radii() {
     assert_eq!(least_length(1500), Some(120_000));
     assert_eq!(least_length(2000), Some(100_000));
     for (radius, least) in [(225, 80000), (1500, 120_000), (2000, 100_000)] {
-        assert_eq!(check_card(&[2, 1, radius, least - 1, 30, 0, 5000, 1]), 4);
-        assert_eq!(check_card(&[2, 1, radius, least, 30, 0, 5000, 1]), 0);
+        assert_eq!(check([2, 1, radius, least - 1, 30, 0, 5000, 1]), 4);
+        assert_eq!(check([2, 1, radius, least, 30, 0, 5000, 1]), 0);
     }
 }
 
 #[test]
 fn full_slope_of_profile_4() {
-    let of = |v| check_card(&[4, 1, 100, 60000, v, 0, 5000, 1]);
+    let of = |v| check([4, 1, 100, 60000, v, 0, 5000, 1]);
     assert_eq!((of(29), of(30), of(60), of(61)), (5, 0, 0, 5));
 }
 
 /// Document 02, Slip 1: "Number 7 never occurs again, and the reading with W 1001 now passes."
 #[test]
 fn widening_of_profile_2() {
-    let of = |w| check_card(&[2, 1, 200, 80000, 30, w, 5000, 1]);
+    let of = |w| check([2, 1, 200, 80000, 30, w, 5000, 1]);
     assert_eq!((of(1000), of(1001), of(3500), of(3501)), (0, 0, 0, 6));
 }
 
 #[test]
 fn widening_by_radius() {
-    let of = |r| check_card(&[2, 1, r, 120_000, 30, 1, 5000, 1]);
+    let of = |r| check([2, 1, r, 120_000, 30, 1, 5000, 1]);
     assert_eq!((of(1000), of(1001)), (0, 6));
 }
 
@@ -144,14 +155,14 @@ fn count_of_rows_and_short_table() {
 
 #[test]
 fn first_reason_met() {
-    assert_eq!(check_card(&[0, 1, 200, 100_000, 30, 0, 0, 1]), 1);
+    assert_eq!(check([0, 1, 200, 100_000, 30, 0, 0, 1]), 1);
     assert_eq!(reply([0, 1, 200, 100_000, 30, 0, 0, 1], 0), (1, 0));
 }
 
 /// The joint is not rounded: both stages meet there, at p, and the edge has climbed at 3‰.
 #[test]
 fn joint_is_exact() {
-    let runoff = Runoff::new(&Card::new(&[2, 1, 400, 100_000, 60, 0, 5000, 1]));
+    let runoff = runoff([2, 1, 400, 100_000, 60, 0, 5000, 1]);
     let joint = fraction(2 * 3500 * 20, 3);
     assert_eq!(runoff.outer_slope(joint), whole(20));
     let climb = runoff.outer_edge(joint) - runoff.outer_edge(whole(0));
@@ -189,6 +200,6 @@ fn short_list_comes_first() {
         count: 0,
         line: 0,
     };
-    assert_eq!(read_book(b"", &mut [0; 639]), due);
+    assert_eq!(read_book(b"", &mut [0; 831]), due);
     assert_eq!(read_book(RAMP_BOOK, &mut []), due);
 }

@@ -1,6 +1,6 @@
 //! The rows of an accepted card, and the lent table they go into.
 
-use crate::card::{check_card, Card};
+use crate::card::{check_card, Card, Numbers};
 use crate::fraction::{whole, Fraction};
 use crate::section::Runoff;
 
@@ -27,21 +27,16 @@ pub fn stations(card: &Card) -> Vec<u32> {
 /// Station; widening; inner brow; inner edge; axis; outer edge; outer brow.
 fn row(runoff: &Runoff, station: u32, unit: u32) -> [i32; ROW] {
     let at = whole(station);
-    let length = |mm: Fraction| (mm / whole(unit)).nearest();
     let height = |micrometres: Fraction| (micrometres / whole(1000 * unit)).nearest();
-    [
-        i32::try_from(station).expect("a station fits 32 bits"),
-        length(runoff.widening(at)),
-        height(runoff.inner_brow(at)),
-        height(runoff.inner_edge(at)),
-        height(runoff.axis()),
-        height(runoff.outer_edge(at)),
-        height(runoff.outer_brow(at)),
-    ]
+    let mut row = [0; ROW];
+    row[0] = i32::try_from(station).expect("a station fits 32 bits");
+    row[1] = (runoff.widening(at) / whole(unit)).nearest();
+    row[2..].copy_from_slice(&runoff.lines(at).map(height));
+    row
 }
 
 /// All rows of a card that `check_card` accepts.
-pub fn rows(numbers: &[u32; 8]) -> Vec<[i32; ROW]> {
+pub fn rows(numbers: &Numbers) -> Vec<[i32; ROW]> {
     let card = Card::new(numbers);
     let runoff = Runoff::new(&card);
     let stations = stations(&card);
@@ -52,7 +47,7 @@ pub fn rows(numbers: &[u32; 8]) -> Vec<[i32; ROW]> {
 }
 
 /// Fills the lent table from its start; a refusal leaves it as it was.
-pub fn fill_table(numbers: &[u32; 8], table: &mut [i32]) -> TableReply {
+pub fn fill_table(numbers: &Numbers, table: &mut [i32]) -> TableReply {
     let refused = |number| TableReply { number, count: 0 };
     let reason = check_card(numbers);
     if reason != 0 {

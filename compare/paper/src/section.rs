@@ -2,7 +2,7 @@
 //!
 //! A length in mm times a slope in ‰ is a height in micrometres.
 
-use crate::card::{self, Card, Profile};
+use crate::card::{self, Card, Datum, Profile};
 use crate::fraction::{fraction, whole, Fraction};
 
 /// A runoff is either even or two-stage; the joint is where the first stage ends.
@@ -23,6 +23,7 @@ pub struct Runoff {
     v: Fraction,
     length: Fraction,
     full_widening: Fraction,
+    datum: Datum,
     pub course: Course,
 }
 
@@ -39,13 +40,20 @@ impl Runoff {
             v: whole(card.full_slope),
             length: whole(card.length),
             full_widening: whole(card.full_widening),
+            datum: card.datum,
             course: course(&profile, card),
         }
     }
 
-    /// The axis stays at c × q + h × p.
-    pub fn axis(&self) -> Fraction {
-        self.c * self.q + self.h * self.p
+    /// The axis stays at c × q + h × p. Of an absolute card it "stands at that height plus grade times station",
+    /// and every other line is told from it, so that they "keep their distance from the axis" (document 02, Slip 5).
+    pub fn axis(&self, station: Fraction) -> Fraction {
+        match self.datum {
+            Datum::Relative => self.c * self.q + self.h * self.p,
+            Datum::Absolute { height, grade } => {
+                whole(1000) * whole(height) + whole(grade) * station
+            }
+        }
     }
 
     pub fn outer_slope(&self, station: Fraction) -> Fraction {
@@ -67,7 +75,7 @@ impl Runoff {
     }
 
     pub fn outer_edge(&self, station: Fraction) -> Fraction {
-        self.axis() + self.h * self.outer_slope(station)
+        self.axis(station) + self.h * self.outer_slope(station)
     }
 
     pub fn outer_brow(&self, station: Fraction) -> Fraction {
@@ -85,7 +93,7 @@ impl Runoff {
     }
 
     pub fn inner_edge(&self, station: Fraction) -> Fraction {
-        self.axis() - (self.h + self.widening(station)) * self.inner_slope(station)
+        self.axis(station) - (self.h + self.widening(station)) * self.inner_slope(station)
     }
 
     /// Document 02, Slip 1: "From now on the inner shoulder is the greater of m and c less the widening."
@@ -96,6 +104,17 @@ impl Runoff {
     pub fn inner_brow(&self, station: Fraction) -> Fraction {
         let slope = self.q.max(self.inner_slope(station));
         self.inner_edge(station) - self.inner_shoulder(station) * slope
+    }
+
+    /// The heights in the order of a row: inner brow; inner edge; axis; outer edge; outer brow.
+    pub fn lines(&self, station: Fraction) -> [Fraction; 5] {
+        [
+            self.inner_brow(station),
+            self.inner_edge(station),
+            self.axis(station),
+            self.outer_edge(station),
+            self.outer_brow(station),
+        ]
     }
 }
 

@@ -1,26 +1,31 @@
 //! Document 02, Slip 2: "A whole day's cards in one call." Replies and rows by the papers' own figures.
 
-use crate::readings::{FLAT, RAMP, RAMP_ROWS};
-use crate::{fill_day, fill_table, DayReply};
+use crate::card::{absolute, relative};
+use crate::readings::{self, RAMP_ROWS};
+use crate::{fill_day, fill_table, DayReply, Numbers};
 
 /// What the lent numbers hold before the call; no row and no reply has them.
 const TABLE_MARK: i32 = -77_777;
 const REPLY_MARK: u32 = 77_777;
 
+const RAMP: Numbers = relative(readings::RAMP);
+const FLAT: Numbers = relative(readings::FLAT);
 /// L 110000 and step 20000: 7 rows, so 49 numbers.
-const LONG: [u32; 8] = [2, 1, 200, 110_000, 30, 0, 20_000, 1];
+const LONG: Numbers = relative([2, 1, 200, 110_000, 30, 0, 20_000, 1]);
 
 /// One card for each of its own reasons, and the number that it gets.
-const REFUSED: [(u32, [u32; 8]); 9] = [
-    (1, [0, 1, 200, 100_000, 30, 0, 0, 1]),
-    (2, [2, 3, 200, 100_000, 30, 0, 20_000, 1]),
-    (3, [1, 1, 124, 100_000, 30, 0, 20_000, 1]),
-    (4, [2, 1, 225, 79_999, 30, 0, 20_000, 1]),
-    (5, [4, 1, 100, 60_000, 61, 0, 20_000, 1]),
-    (6, [2, 1, 1001, 120_000, 30, 1, 20_000, 1]),
-    (8, [1, 1, 125, 55_000, 60, 0, 20_000, 1]),
-    (9, [2, 1, 200, 100_000, 30, 0, 999, 1]),
-    (10, [2, 1, 200, 100_000, 30, 0, 20_000, 2]),
+const REFUSED: [(u32, Numbers); 11] = [
+    (1, relative([0, 1, 200, 100_000, 30, 0, 0, 1])),
+    (2, relative([2, 3, 200, 100_000, 30, 0, 20_000, 1])),
+    (3, relative([1, 1, 124, 100_000, 30, 0, 20_000, 1])),
+    (4, relative([2, 1, 225, 79_999, 30, 0, 20_000, 1])),
+    (5, relative([4, 1, 100, 60_000, 61, 0, 20_000, 1])),
+    (6, relative([2, 1, 1001, 120_000, 30, 1, 20_000, 1])),
+    (8, relative([1, 1, 125, 55_000, 60, 0, 20_000, 1])),
+    (9, relative([2, 1, 200, 100_000, 30, 0, 999, 1])),
+    (10, relative([2, 1, 200, 100_000, 30, 0, 20_000, 2])),
+    (34, absolute(readings::FLAT, 5, 0)),
+    (35, absolute(readings::RAMP, 0, 81)),
 ];
 
 /// A day's reply, and what is lent, afterwards.
@@ -31,7 +36,7 @@ struct Day {
     replies: Vec<u32>,
 }
 
-fn day(cards: &[[u32; 8]], table_length: usize, replies_length: usize) -> Day {
+fn day(cards: &[Numbers], table_length: usize, replies_length: usize) -> Day {
     let mut table = vec![TABLE_MARK; table_length];
     let mut replies = vec![REPLY_MARK; replies_length];
     let DayReply { number, count } = fill_day(cards, &mut table, &mut replies);
@@ -109,9 +114,9 @@ fn refused_at_the_start_in_the_middle_and_at_the_end() {
 /// "it gives number 0 and the count of cards": of all cards, though none is accepted.
 #[test]
 fn every_card_refused() {
-    let all = day(&REFUSED.map(|(_, card)| card), 42, 18);
+    let all = day(&REFUSED.map(|(_, card)| card), 42, 22);
     let due = REFUSED.map(|(number, _)| [number, 0]);
-    assert_eq!(all.answers(), (0, 9, due.as_flattened()));
+    assert_eq!(all.answers(), (0, 11, due.as_flattened()));
     assert!(all.holds_ramp(0));
 }
 
@@ -181,7 +186,7 @@ fn every_card_as_in_a_single_call() {
     (0..=190).for_each(|table_length| as_in_single_calls(&cards, table_length));
 }
 
-fn as_in_single_calls(cards: &[[u32; 8]], table_length: usize) {
+fn as_in_single_calls(cards: &[Numbers], table_length: usize) {
     let whole = day(cards, table_length, 2 * cards.len());
     let mut used = 0;
     for (card, reply) in cards.iter().zip(whole.replies.chunks_exact(2)) {

@@ -1,19 +1,20 @@
 //! Document 02, Slip 4: "Write the book as well as read it." Books and replies by the papers' own figures.
 
+use crate::card::{absolute, relative};
 use crate::readings::{RAMP, RAMP_BOOK};
 use crate::{read_book, write_book, WriterReply};
 
 /// What the lent buffer holds before the call; no book has such a byte.
 const MARK: u8 = b'~';
 /// RAMP's list as the reader gives it.
-const RAMP_LIST: [u32; 10] = [2, 4, 5, 1, 30, 30_000, 60, 600, 20_000, 1];
+pub const RAMP_LIST: [i32; 13] = [2, 4, 5, 1, 30, 30_000, 60, 600, 20_000, 1, 0, 0, 0];
 
 /// Three names at places of their own, in another order than the list's.
 const NAMES: &[u8] = b"--B7/ramp RAMP2..RAMP";
-const THREE: [[u32; 10]; 3] = [
-    [17, 4, 5, 1, 30, 30_000, 60, 600, 20_000, 1],
-    [2, 2, 0, 9, 10, 99, 100, 9_999_999, 1_000_000, 0],
-    [10, 5, 3, 1, 700, 120_000, 40, 400, 20_000, 10],
+const THREE: [[i32; 13]; 3] = [
+    [17, 4, 5, 1, 30, 30_000, 60, 600, 20_000, 1, 0, 0, 0],
+    [2, 2, 0, 9, 10, 99, 100, 9_999_999, 1_000_000, 0, 0, 0, 0],
+    [10, 5, 3, 1, 700, 120_000, 40, 400, 20_000, 10, 0, 0, 0],
 ];
 const BOOK_OF_THREE: &[u8] = b"3\nRAMP 5\nB7 6\nRAMP2 7\n\
     5 1 30 30000 60 600 20000 1\n\
@@ -21,13 +22,13 @@ const BOOK_OF_THREE: &[u8] = b"3\nRAMP 5\nB7 6\nRAMP2 7\n\
     3 1 700 120000 40 400 20000 10\n";
 
 /// The writer's reply, and the whole buffer, afterwards.
-struct Written {
-    number: u32,
-    count: u32,
-    buffer: Vec<u8>,
+pub struct Written {
+    pub number: u32,
+    pub count: u32,
+    pub buffer: Vec<u8>,
 }
 
-fn write(list: &[u32], names: &[u8], buffer_length: usize) -> Written {
+pub fn write(list: &[i32], names: &[u8], buffer_length: usize) -> Written {
     let mut buffer = vec![MARK; buffer_length];
     let WriterReply { number, count } = write_book(list, names, &mut buffer);
     Written {
@@ -39,7 +40,7 @@ fn write(list: &[u32], names: &[u8], buffer_length: usize) -> Written {
 
 impl Written {
     /// Number 0, the count of the book's bytes, the book, and later bytes untouched.
-    fn is(&self, book: &[u8]) -> bool {
+    pub fn is(&self, book: &[u8]) -> bool {
         let Some(later) = self.buffer.strip_prefix(book) else {
             return false;
         };
@@ -48,40 +49,41 @@ impl Written {
     }
 
     /// That number, count 0, and the whole buffer untouched.
-    fn gives_only(&self, number: u32) -> bool {
+    pub fn gives_only(&self, number: u32) -> bool {
         let kept = self.buffer.iter().all(|&byte| byte == MARK);
         (self.number, self.count) == (number, 0) && kept
     }
 }
 
-/// The front part of what the reader fills: ten numbers a curve and nothing else.
-fn read(book: &[u8]) -> Vec<u32> {
-    let mut list = vec![0; 640];
+/// The front part of what the reader fills: thirteen numbers a curve and nothing else.
+pub fn read(book: &[u8]) -> Vec<i32> {
+    let mut list = vec![77; 832];
     let reply = read_book(book, &mut list);
     assert_eq!((reply.number, reply.line), (0, 0));
-    list.truncate(10 * reply.count as usize);
+    list.truncate(13 * reply.count as usize);
     list
 }
 
-/// The name and the eight numbers of each curve.
-fn curves<'a>(list: &'a [u32], names: &'a [u8]) -> Vec<(&'a [u8], &'a [u32])> {
-    let curve = |curve: &'a [u32]| {
+/// The name and the numbers of the card of each curve.
+pub fn curves<'a>(list: &'a [i32], names: &'a [u8]) -> Vec<(&'a [u8], &'a [i32])> {
+    let curve = |curve: &'a [i32]| {
         let (place, length) = (curve[0] as usize, curve[1] as usize);
         (&names[place..place + length], &curve[2..])
     };
-    list.chunks(10).map(curve).collect()
+    list.chunks(13).map(curve).collect()
 }
 
 /// 64 names of eight signs.
-fn eight_signs() -> Vec<u8> {
+pub fn eight_signs() -> Vec<u8> {
     (0..64)
         .flat_map(|i| format!("CURVE{}", 100 + i).into_bytes())
         .collect()
 }
 
-/// So many curves with those names, each number the greatest there is.
-fn greatest(curves: u32) -> Vec<u32> {
-    let curve = |i| [8 * (i % 64), 8].into_iter().chain([9_999_999; 8]);
+/// So many curves with those names, each number the greatest there is, or the least where it may be below 0.
+pub fn greatest(curves: i32) -> Vec<i32> {
+    let card = absolute([9_999_999; 8], -9_999_999, -9_999_999);
+    let curve = |i| [8 * (i % 64), 8].into_iter().chain(card);
     (0..curves).flat_map(curve).collect()
 }
 
@@ -90,7 +92,7 @@ fn ramp_book() {
     assert!(write(&RAMP_LIST, RAMP_BOOK, 37).is(RAMP_BOOK));
     assert!(write(&RAMP_LIST, RAMP_BOOK, 38).is(RAMP_BOOK));
     assert!(write(&RAMP_LIST, RAMP_BOOK, 9000).is(RAMP_BOOK));
-    let alone = [&[0, 4], &RAMP[..]].concat();
+    let alone = [&[0, 4], &relative(RAMP)[..]].concat();
     assert!(write(&alone, b"RAMP", 37).is(RAMP_BOOK));
 }
 
@@ -119,7 +121,7 @@ fn what_is_written_is_read() {
 /// "writing back what was read from an accepted book gives its bytes".
 #[test]
 fn what_was_read_is_written_back() {
-    let full = write(&greatest(64), &eight_signs(), 4897).buffer;
+    let full = write(&greatest(64), &eight_signs(), 6049).buffer;
     let small = b"2\n0 4\nA 5\n0 0 0 0 0 0 0 0\n1 2 3 4 5 6 7 8\n";
     for book in [RAMP_BOOK, BOOK_OF_THREE, small, &full] {
         assert!(write(&read(book), book, book.len() + 5).is(book));
@@ -130,7 +132,7 @@ fn what_was_read_is_written_back() {
 #[test]
 fn an_edited_card() {
     let mut list = read(BOOK_OF_THREE);
-    list[17] = 100_000;
+    list[20] = 100_000;
     let edited = String::from_utf8(BOOK_OF_THREE.to_vec()).expect("ASCII");
     let edited = edited.replace(" 9999999 ", " 100000 ");
     assert!(write(&list, BOOK_OF_THREE, 200).is(edited.as_bytes()));
@@ -151,27 +153,28 @@ fn the_lines_of_the_bodies() {
     }
 }
 
-/// 2 + 1 bytes, then 64 names of 8 with their lines (34 of two digits, 30 of three), then 64 × 64.
+/// 2 + 1 bytes, then 64 names of 8 with their lines (34 of two digits, 30 of three), then 64 × 82: eight numbers of seven
+/// digits and two with a minus, each with a blank or the end of the line behind it.
 #[test]
 fn the_greatest_book() {
     let (list, names) = (greatest(64), eight_signs());
-    let size = 3 + 64 * 10 + 34 * 2 + 30 * 3 + 64 * 64;
-    assert_eq!(size, 4897);
-    assert_eq!(write(&list, &names, size).count, 4897);
+    let size = 3 + 64 * 10 + 34 * 2 + 30 * 3 + 64 * (8 * 8 + 2 * 9);
+    assert_eq!(size, 6049);
+    assert_eq!(write(&list, &names, size).count, 6049);
     assert!(write(&list, &names, size - 1).gives_only(33));
     assert!(write(&list, &names, 0).gives_only(33));
 }
 
-/// "a list length not ten times 1 to 64".
+/// Slip 5: thirteen numbers a curve, so "a list length not ten times 1 to 64" is now one not thirteen times 1 to 64.
 #[test]
 fn list_lengths() {
     let (long, names) = (greatest(6600), eight_signs());
-    for length in [10, 20, 630, 640] {
+    for length in [13, 26, 819, 832] {
         let written = write(&long[..length], &names, 8192);
         assert_eq!(written.number, 0, "{length} numbers");
     }
     for length in [
-        0, 1, 9, 11, 19, 21, 639, 641, 649, 650, 660, 1280, 2570, 65_546,
+        0, 1, 10, 12, 14, 20, 25, 27, 640, 831, 833, 844, 845, 858, 1664, 3341, 65_549,
     ] {
         let written = write(&long[..length], &names, 8192);
         assert!(written.gives_only(31), "{length} numbers");
@@ -180,8 +183,8 @@ fn list_lengths() {
 }
 
 /// RAMP's numbers with its name at another place or of another length; the reply number.
-fn named(place: u32, length: u32, names: &[u8]) -> u32 {
-    let list = [&[place, length], &RAMP[..]].concat();
+fn named(place: i32, length: i32, names: &[u8]) -> u32 {
+    let list = [&[place, length], &relative(RAMP)[..]].concat();
     let written = write(&list, names, 50);
     assert!(written.number == 0 || written.gives_only(31));
     written.number
@@ -194,7 +197,7 @@ fn malformed_names() {
     for length in 1..=8 {
         assert_eq!(named(2, length, names), 0, "{length} bytes");
     }
-    for length in [0, 9, 10, 256 + 4, 65_536 + 4, u32::MAX] {
+    for length in [0, 9, 10, 256 + 4, 65_536 + 4, i32::MAX] {
         assert_eq!(named(2, length, names), 31, "{length} bytes");
     }
     for byte in 0..=u8::MAX {
@@ -231,20 +234,43 @@ fn names_at_the_end_of_the_bytes() {
     assert_eq!(named(0, 0, b""), 31);
 }
 
-/// "Place plus length may exceed 32 bits": these sums are above 2^32 by 0 to 4, so 32 bits of them lie within.
+/// These sums are above 2^31 by 0 to 6, and below 0 in 32 bits.
 #[test]
-fn places_and_lengths_above_32_bits() {
+fn places_and_lengths_above_31_bits() {
     for (place, length) in [
-        (u32::MAX, 1),
-        (u32::MAX, 2),
-        (u32::MAX - 3, 4),
-        (u32::MAX - 3, 8),
-        (u32::MAX - 7, 8),
-        (1, u32::MAX),
-        (4, u32::MAX),
-        (u32::MAX, u32::MAX),
-        (1 << 31, 1 << 31),
-        (1 << 31, 4),
+        (i32::MAX, 1),
+        (i32::MAX, 2),
+        (i32::MAX - 3, 4),
+        (i32::MAX - 3, 8),
+        (i32::MAX - 7, 8),
+        (1, i32::MAX),
+        (4, i32::MAX),
+        (i32::MAX, i32::MAX),
+    ] {
+        assert_eq!(
+            named(place, length, b"RAMP1234"),
+            31,
+            "{length} from {place}"
+        );
+    }
+}
+
+/// "Place or length of a name below 0: 31", though the name would end within the bytes.
+#[test]
+fn places_and_lengths_below_0() {
+    for (place, length) in [
+        (-1, 1),
+        (-1, 2),
+        (-4, 4),
+        (-4, 8),
+        (i32::MIN, 4),
+        (4, -1),
+        (4, -4),
+        (8, -8),
+        (4, i32::MIN),
+        (4, i32::MIN + 4),
+        (-1, -1),
+        (i32::MIN, i32::MIN),
     ] {
         assert_eq!(
             named(place, length, b"RAMP1234"),
@@ -255,7 +281,7 @@ fn places_and_lengths_above_32_bits() {
 }
 
 /// RAMP's list with one number replaced.
-fn with_number(place: usize, number: u32) -> Written {
+pub fn with_number(place: usize, number: i32) -> Written {
     let mut list = RAMP_LIST;
     list[place] = number;
     write(&list, RAMP_BOOK, 50)
@@ -268,7 +294,7 @@ fn numbers_of_seven_digits_and_of_more() {
         for number in [0, 9, 10, 1_000_000, 9_999_999] {
             assert_eq!(with_number(place, number).number, 0, "{number}");
         }
-        for number in [10_000_000, 10_000_001, 99_999_999, 1 << 31, u32::MAX] {
+        for number in [10_000_000, 10_000_001, 99_999_999, 1 << 30, i32::MAX] {
             assert!(with_number(place, number).gives_only(33), "{number}");
         }
     }
@@ -289,12 +315,12 @@ fn buffers_of_every_length() {
 }
 
 /// Four curves with RAMP's numbers and these names, one behind another; then changes to single numbers of the list.
-fn four(names: [&str; 4], changes: &[(usize, usize, u32)], buffer_length: usize) -> Written {
+pub fn four(names: [&str; 4], changes: &[(usize, usize, i32)], buffer_length: usize) -> Written {
     let bytes = names.concat();
     let mut place = 0;
     let mut list = names.map(|name| {
         let mut curve = RAMP_LIST;
-        (curve[0], curve[1]) = (place, name.len() as u32);
+        (curve[0], curve[1]) = (place, name.len() as i32);
         place += curve[1];
         curve
     });
@@ -324,8 +350,8 @@ fn names_alike() {
     assert_eq!(fronts.number, 0);
 }
 
-const LONG_FIRST: (usize, usize, u32) = (0, 9, 10_000_000);
-const LONG_LAST: (usize, usize, u32) = (3, 2, 10_000_000);
+const LONG_FIRST: (usize, usize, i32) = (0, 9, 10_000_000);
+const LONG_LAST: (usize, usize, i32) = (3, 2, 10_000_000);
 
 /// "31, then for 32": the whole list for one number, then for the next.
 #[test]
@@ -336,9 +362,9 @@ fn order_of_31_and_32() {
     assert!(four(["A", "A", "C", "D"], &[(3, 1, 0)], 200).gives_only(31));
     assert!(four(["a", "B", "C", "a"], &[], 200).gives_only(31));
     let twins = [RAMP_LIST; 65];
-    assert!(write(&twins.as_flattened()[..25], RAMP_BOOK, 200).gives_only(31));
+    assert!(write(&twins.as_flattened()[..30], RAMP_BOOK, 200).gives_only(31));
     assert!(write(twins.as_flattened(), RAMP_BOOK, 8192).gives_only(31));
-    assert!(write(&twins.as_flattened()[..640], RAMP_BOOK, 8192).gives_only(32));
+    assert!(write(&twins.as_flattened()[..832], RAMP_BOOK, 8192).gives_only(32));
 }
 
 #[test]
@@ -356,5 +382,5 @@ fn order_of_31_and_33() {
     assert!(four(["a", "B", "C", "D"], &[LONG_LAST], 200).gives_only(31));
     assert!(four(["A", "B", "C", "d"], &[], 0).gives_only(31));
     assert!(four(["A", "A", "C", "d"], &[LONG_FIRST], 0).gives_only(31));
-    assert!(write(&RAMP_LIST[..9], RAMP_BOOK, 0).gives_only(31));
+    assert!(write(&RAMP_LIST[..12], RAMP_BOOK, 0).gives_only(31));
 }

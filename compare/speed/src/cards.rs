@@ -1,9 +1,25 @@
 //! The cards whose tables are filled.
 
+use paper::card::{absolute, relative, Numbers};
+
+/// The cards as they stand below, relative.
+pub fn relative_cards() -> [Numbers; 64] {
+    EIGHTS.map(relative)
+}
+
+/// The same cards with heights from the least to the greatest, in tens of mm, and grades of either sign.
+pub fn absolute_cards() -> [Numbers; 64] {
+    std::array::from_fn(|i| {
+        let place = i as i32;
+        let height = -10_000 + 910_000 * place / 63;
+        absolute(EIGHTS[i], 10 * height, place * 37 % 161 - 80)
+    })
+}
+
 /// Accepted cards with steps of 1 m, from 30 m to 300 m: all profiles, both
 /// terrains, both units, half of them even and half two-stage, half widened.
 #[rustfmt::skip]
-pub const CARDS: [[u32; 8]; 64] = [
+pub const EIGHTS: [[i32; 8]; 64] = [
     [1, 1, 250, 158000, 26, 0, 1000, 1],
     [2, 2, 1504, 285787, 60, 0, 1000, 1],
     [3, 1, 300, 105000, 41, 0, 1000, 10],
@@ -69,3 +85,20 @@ pub const CARDS: [[u32; 8]; 64] = [
     [3, 1, 60, 50393, 42, 550, 1000, 10],
     [4, 2, 90, 61747, 60, 350, 1000, 10],
 ];
+
+#[cfg(test)]
+mod tests {
+    use super::{absolute_cards, relative_cards};
+    use paper::check_card;
+
+    /// The limits are among the heights and the grades.
+    #[test]
+    fn all_are_accepted() {
+        assert!(relative_cards().iter().all(|card| check_card(card) == 0));
+        let cards = absolute_cards();
+        assert!(cards.iter().all(|card| check_card(card) == 0));
+        assert_eq!((cards[0][9], cards[63][9]), (-100_000, 9_000_000));
+        assert!(cards.iter().any(|card| card[10] == -80));
+        assert!(cards.iter().any(|card| card[10] > 75));
+    }
+}

@@ -8,31 +8,42 @@ mod plain;
 mod texts;
 mod timing;
 
-use cards::CARDS;
+use paper::Numbers;
 use std::hint::black_box;
 use std::process::ExitCode;
 
-type Fill = fn(&[u32; 8], &mut [i32]) -> (u32, u32);
-type Read = fn(&[u8], &mut [u32]) -> (u32, u32, u32);
+type Fill = fn(&Numbers, &mut [i32]) -> (u32, u32);
+type Read = fn(&[u8], &mut [i32]) -> (u32, u32, u32);
 
 /// Seven numbers for each row of the longest card, and some to spare.
 const TABLE: usize = 7 * 301 + 9;
-const LIST: usize = 640;
+const LIST: usize = 832;
 
-const BOOKS: [&str; 3] = ["tail", "longest", "ordinary"];
+/// The tables of relative cards, and of absolute ones.
+const TABLES: [&str; 2] = ["tables", "heights"];
+const BOOKS: [&str; 4] = ["tail", "longest", "ordinary", "greatest"];
 
 /// The library's table, its number and count.
-fn our_table(card: &[u32; 8], table: &mut [i32]) -> (u32, u32) {
+fn our_table(card: &Numbers, table: &mut [i32]) -> (u32, u32) {
     let mut count = 0;
     let number = calls::fill_table(card, table, &mut count);
     (number, count)
 }
 
 /// The library's list, its number, count and line.
-fn our_list(text: &[u8], list: &mut [u32]) -> (u32, u32, u32) {
+fn our_list(text: &[u8], list: &mut [i32]) -> (u32, u32, u32) {
     let (mut count, mut line) = (0, 0);
     let number = calls::read_book(text, list, &mut count, &mut line);
     (number, count, line)
+}
+
+/// The cards of that work.
+fn cards(name: &str) -> Option<[Numbers; 64]> {
+    match name {
+        "tables" => Some(cards::relative_cards()),
+        "heights" => Some(cards::absolute_cards()),
+        _ => None,
+    }
 }
 
 /// The book of that name.
@@ -41,28 +52,29 @@ fn text(name: &str) -> Option<Vec<u8>> {
         "tail" => Some(texts::tail()),
         "longest" => Some(texts::longest()),
         "ordinary" => Some(texts::ordinary()),
+        "greatest" => Some(texts::greatest()),
         _ => None,
     }
 }
 
 /// Fills the tables of all cards, one after another.
-fn fill_all(fill: Fill, table: &mut [i32]) {
-    for card in black_box(&CARDS) {
+fn fill_all(fill: Fill, cards: &[Numbers; 64], table: &mut [i32]) {
+    for card in black_box(cards) {
         black_box(fill(card, table));
         black_box(&mut *table);
     }
 }
 
 /// Reads one book.
-fn read_one(read: Read, text: &[u8], list: &mut [u32]) {
+fn read_one(read: Read, text: &[u8], list: &mut [i32]) {
     black_box(read(black_box(text), list));
     black_box(list);
 }
 
 /// Whether both give the same answers and tables, with room and without.
-fn same_tables() -> bool {
-    CARDS.iter().all(|card| {
-        let rows = card[3].div_ceil(card[6]) as usize + 1;
+fn same_tables(cards: &[Numbers]) -> bool {
+    cards.iter().all(|card| {
+        let rows = (card[3] as usize).div_ceil(card[6] as usize) + 1;
         [TABLE, 7 * rows, 7 * rows - 1].iter().all(|&length| {
             let (mut ours, mut plain) = (vec![-77; length], vec![-77; length]);
             let due = if length < 7 * rows {
@@ -92,14 +104,19 @@ fn same_lists(name: &str, text: &[u8]) -> bool {
 
 /// Compares the answers, then the times.
 fn compare() -> Result<(), String> {
-    if !same_tables() {
-        return Err("the tables differ".to_string());
-    }
     println!("work        times  ours (us) plain (us)    ratio    lower    upper");
     let (mut one, mut other) = (vec![0; TABLE], vec![0; TABLE]);
-    timing::compare("tables", &mut || fill_all(our_table, &mut one), &mut || {
-        fill_all(plain::section::fill_table, &mut other)
-    });
+    for name in TABLES {
+        let cards = cards(name).ok_or("no such cards")?;
+        if !same_tables(&cards) {
+            return Err(format!("the tables differ: {name}"));
+        }
+        timing::compare(
+            name,
+            &mut || fill_all(our_table, &cards, &mut one),
+            &mut || fill_all(plain::section::fill_table, &cards, &mut other),
+        );
+    }
     let (mut one, mut other) = (vec![0; LIST], vec![0; LIST]);
     for name in BOOKS {
         let text = text(name).unwrap_or_default();
@@ -123,9 +140,9 @@ fn count(work: &str, side: &str, repetitions: &str) -> Option<()> {
         _ => return None,
     };
     let repetitions: usize = repetitions.parse().ok()?;
-    if work == "tables" {
+    if let Some(cards) = cards(work) {
         let mut table = vec![0; TABLE];
-        (0..repetitions).for_each(|_| fill_all(fill, &mut table));
+        (0..repetitions).for_each(|_| fill_all(fill, &cards, &mut table));
         return Some(());
     }
     let names = if work == "book" {

@@ -18,22 +18,35 @@ impl<'a> Reader<'a> {
         self.place += length;
     }
 
-    /// A number of 1 to 7 digits and the byte that ends it.
-    fn number(&mut self, end: u8) -> Option<u32> {
+    /// A number of 1 to 7 digits, and the byte that ends it.
+    fn digits(&mut self) -> Option<(i32, u8)> {
         let rest = self.rest;
         let mut value = 0;
         for (length, &byte) in rest.iter().take(8).enumerate() {
-            if byte == end {
+            if !byte.is_ascii_digit() {
                 let good = length == 1 || (length > 1 && rest[0] != b'0');
                 self.skip(length + 1);
-                return good.then_some(value);
+                return good.then_some((value, byte));
             }
-            if !byte.is_ascii_digit() {
-                return None;
-            }
-            value = 10 * value + u32::from(byte - b'0');
+            value = 10 * value + i32::from(byte - b'0');
         }
         None
+    }
+
+    /// A number and this byte.
+    fn number(&mut self, end: u8) -> Option<i32> {
+        let (value, ended) = self.digits()?;
+        (ended == end).then_some(value)
+    }
+
+    /// The same with an optional minus before a number other than 0.
+    fn signed(&mut self, end: u8) -> Option<i32> {
+        if self.rest.first() != Some(&b'-') {
+            return self.number(end);
+        }
+        self.skip(1);
+        let value = self.number(end)?;
+        (value > 0).then_some(-value)
     }
 
     /// A name of 1 to 8 capitals or digits and the blank after it.
@@ -49,17 +62,28 @@ impl<'a> Reader<'a> {
         Some(name)
     }
 
-    /// A body's eight numbers.
-    fn body(&mut self, card: &mut [u32]) -> Option<()> {
-        for (i, number) in card.iter_mut().enumerate() {
-            *number = self.number(if i < 7 { BLANK } else { LINE_END })?;
+    /// A body's eight numbers, and the height and the grade where they follow.
+    fn body(&mut self, card: &mut [i32]) -> Option<()> {
+        for number in &mut card[..7] {
+            *number = self.number(BLANK)?;
+        }
+        let (unit, ended) = self.digits()?;
+        card[7] = unit;
+        match ended {
+            LINE_END => card[8..].fill(0),
+            BLANK => {
+                let (height, grade) = (self.signed(BLANK)?, self.signed(LINE_END)?);
+                card[8..].copy_from_slice(&[1, height, grade]);
+            }
+            _ => return None,
         }
         Some(())
     }
 }
 
-/// Ten numbers a curve: place and length of the name, then the card.
-type Curves = [[u32; 10]; MOST_CURVES];
+/// Numbers a curve: place and length of the name, then the card.
+const CURVE: usize = 13;
+type Curves = [[i32; CURVE]; MOST_CURVES];
 
 /// The number of a refusal, and its line.
 type Fault = (u32, u32);
@@ -82,8 +106,8 @@ fn contents(reader: &mut Reader, count: usize, curves: &mut Curves) -> Result<()
             return Err((25, line));
         }
         names[i] = padded;
-        curves[i][0] = place as u32;
-        curves[i][1] = name.len() as u32;
+        curves[i][0] = place as i32;
+        curves[i][1] = name.len() as i32;
     }
     Ok(())
 }
@@ -112,17 +136,17 @@ fn read(text: &[u8], curves: &mut Curves) -> Result<usize, Fault> {
 
 /// The book's number, the count of curves and the line.
 #[inline(never)]
-pub fn read_book(text: &[u8], list: &mut [u32]) -> (u32, u32, u32) {
-    if list.len() < 10 * MOST_CURVES {
+pub fn read_book(text: &[u8], list: &mut [i32]) -> (u32, u32, u32) {
+    if list.len() < CURVE * MOST_CURVES {
         return (28, 0, 0);
     }
     if text.is_empty() || text.len() > LONGEST_TEXT {
         return (21, 0, 0);
     }
-    let mut curves = [[0; 10]; MOST_CURVES];
+    let mut curves = [[0; CURVE]; MOST_CURVES];
     match read(text, &mut curves) {
         Ok(count) => {
-            list[..10 * count].copy_from_slice(curves[..count].as_flattened());
+            list[..CURVE * count].copy_from_slice(curves[..count].as_flattened());
             (0, count as u32, 0)
         }
         Err((number, line)) => (number, 0, line),
@@ -134,16 +158,48 @@ mod tests {
     use super::read_book;
 
     fn answer(text: &str) -> (u32, u32, u32) {
-        read_book(text.as_bytes(), &mut [0; 640])
+        read_book(text.as_bytes(), &mut [0; 832])
     }
 
     #[test]
     fn accepted() {
-        let mut list = [9; 641];
+        let mut list = [9; 833];
         let text = b"1\nRAMP 3\n5 1 30 30000 60 600 20000 1\n";
         assert_eq!(read_book(text, &mut list), (0, 1, 0));
-        assert_eq!(list[..11], [2, 4, 5, 1, 30, 30000, 60, 600, 20000, 1, 9]);
-        assert_eq!(read_book(text, &mut list[..639]), (28, 0, 0));
+        assert_eq!(list[..10], [2, 4, 5, 1, 30, 30000, 60, 600, 20000, 1]);
+        assert_eq!(list[10..14], [0, 0, 0, 9]);
+        assert_eq!(read_book(text, &mut list[..831]), (28, 0, 0));
+    }
+
+    #[test]
+    fn absolute() {
+        let mut list = [9; 832];
+        let text = b"1\nRAMP 3\n5 1 30 30000 60 600 20000 1 250000 -35\n";
+        assert_eq!(read_book(text, &mut list), (0, 1, 0));
+        assert_eq!(list[10..14], [1, 250_000, -35, 9]);
+        let body = |words: &str| answer(&format!("1\nA 3\n1 2 3 4 5 6 7 {words}\n")).0;
+        for words in ["8", "8 0 0", "8 -9999999 9999999", "8 7 -7"] {
+            assert_eq!(body(words), 0, "{words}");
+        }
+        for words in [
+            "-8",
+            "8 ",
+            "8 9",
+            "8 -0 1",
+            "8 1 -0",
+            "8 - 1",
+            "8 +7 1",
+            "8 -07 1",
+            "8 1 -10000000",
+            "8 1 2 3",
+            "8  1 2",
+            "8 1  2",
+            "8 1 2 ",
+            "8 --7 1",
+            "8 7- 1",
+        ] {
+            assert_eq!(body(words), 26, "{words}");
+        }
     }
 
     #[test]

@@ -1,6 +1,6 @@
 //! A card's table, every row worked afresh from the card and its station.
 
-use paper::card::LEAST_LENGTHS;
+use paper::card::{Numbers, LEAST_LENGTHS};
 
 /// One line of the paper's table of profiles; lengths in mm, slopes in ‰.
 struct Profile {
@@ -11,6 +11,13 @@ struct Profile {
     least_shoulder: i64,
     least_radius: i64,
     added_slope: [i64; 2],
+}
+
+impl Profile {
+    /// Where the axis of a relative card stays, in micrometres.
+    fn axis(&self) -> i64 {
+        self.shoulder * self.shoulder_slope + self.half * self.crown_slope
+    }
 }
 
 /// A profile from its numbers in the order of the paper.
@@ -72,8 +79,8 @@ fn round(top: i64, bottom: i64) -> i32 {
 }
 
 /// The first of the card's own reasons that applies, or 0.
-fn reason(card: &[u32; 8]) -> u32 {
-    let [kind, terrain, radius, length, slope, widening, step, unit] = card.map(i64::from);
+fn reason(card: &Numbers) -> u32 {
+    let [kind, terrain, radius, length, slope, widening, step, unit, ..] = card.map(i64::from);
     if !(1..=5).contains(&kind) {
         return 1;
     }
@@ -89,7 +96,7 @@ fn reason(card: &[u32; 8]) -> u32 {
         4
     } else if slope < profile.crown_slope || slope > 60 {
         5
-    } else if widening > 3500 || (widening > 0 && radius > 1000) {
+    } else if !(0..=3500).contains(&widening) || (widening > 0 && radius > 1000) {
         6
     } else if climb > added_slope * length {
         8
@@ -98,8 +105,28 @@ fn reason(card: &[u32; 8]) -> u32 {
     } else if unit != 1 && unit != 10 {
         10
     } else {
+        datum_reason(card)
+    }
+}
+
+/// 34 or 35 of an absolute card whose unit is 1 or 10, or 0.
+fn datum_reason(card: &Numbers) -> u32 {
+    let [.., unit, mark, height, grade] = *card;
+    if mark == 0 {
+        0
+    } else if !(-100_000..=9_000_000).contains(&height) || height % unit != 0 {
+        34
+    } else if !(-80..=80).contains(&grade) {
+        35
+    } else {
         0
     }
+}
+
+/// Where the axis stands: in micrometres, or at a height in units that climbs by a grade.
+enum Axis {
+    Relative(i64),
+    Absolute { height: i64, grade: i64 },
 }
 
 enum Stages {
@@ -115,18 +142,27 @@ struct Runoff {
     full_widening: i64,
     step: i64,
     unit: i64,
+    axis: Axis,
     stages: Stages,
 }
 
 impl Runoff {
     /// The card's runoff, or the number of the first reason met.
-    fn from_card(card: &[u32; 8]) -> Result<Runoff, u32> {
+    fn from_card(card: &Numbers) -> Result<Runoff, u32> {
         let number = reason(card);
         if number != 0 {
             return Err(number);
         }
-        let [kind, _, _, length, full_slope, full_widening, step, unit] = card.map(i64::from);
+        let [kind, _, _, length, full_slope, full_widening, step, unit, mark, height, grade] =
+            card.map(i64::from);
         let profile = &PROFILES[kind as usize - 1];
+        let axis = match mark {
+            0 => Axis::Relative(profile.axis()),
+            _ => Axis::Absolute {
+                height: height / unit,
+                grade,
+            },
+        };
         let climb = profile.half * (profile.crown_slope + full_slope);
         let stages = match climb >= 3 * length {
             true => Stages::Even,
@@ -139,6 +175,7 @@ impl Runoff {
             full_widening,
             step,
             unit,
+            axis,
             stages,
         })
     }
@@ -168,8 +205,9 @@ impl Runoff {
         }
     }
 
-    /// The seven numbers of the row at a station.
-    fn row(&self, station: i64) -> [i32; 7] {
+    /// The seven numbers of the row at a station, where the axis stands at so many units and micrometres besides.
+    #[inline(always)]
+    fn row(&self, station: i64, (units, axis): (i32, i64)) -> [i32; 7] {
         let (h, c, m) = (
             self.profile.half,
             self.profile.shoulder,
@@ -179,7 +217,6 @@ impl Runoff {
         let outer = self.outer_slope(station);
         let inner = outer.at_least(p);
         let side = inner.at_least(q);
-        let axis = c * q + h * p;
         let outer_edge = axis * outer.bottom + h * outer.top;
         let outer_brow = outer_edge + c * outer.top;
         // On the inner side all stands over the length too, for the widening.
@@ -192,18 +229,28 @@ impl Runoff {
         [
             station as i32,
             round(widening, self.length * self.unit),
-            round(inner_brow, bottom * unit),
-            round(inner_edge, bottom * unit),
-            round(axis, unit),
-            round(outer_edge, outer.bottom * unit),
-            round(outer_brow, outer.bottom * unit),
+            units + round(inner_brow, bottom * unit),
+            units + round(inner_edge, bottom * unit),
+            units + round(axis, unit),
+            units + round(outer_edge, outer.bottom * unit),
+            units + round(outer_brow, outer.bottom * unit),
         ]
+    }
+
+    /// Fills the table row by row, where the axis stands so.
+    fn fill(&self, table: &mut [i32], axis: impl Fn(i64) -> (i32, i64)) {
+        let mut station = 0;
+        for row in table.chunks_exact_mut(7) {
+            let at = station.min(self.length);
+            row.copy_from_slice(&self.row(at, axis(at)));
+            station += self.step;
+        }
     }
 }
 
 /// The card's number and the count of rows left in the table.
 #[inline(never)]
-pub fn fill_table(card: &[u32; 8], table: &mut [i32]) -> (u32, u32) {
+pub fn fill_table(card: &Numbers, table: &mut [i32]) -> (u32, u32) {
     let runoff = match Runoff::from_card(card) {
         Ok(runoff) => runoff,
         Err(number) => return (number, 0),
@@ -212,10 +259,18 @@ pub fn fill_table(card: &[u32; 8], table: &mut [i32]) -> (u32, u32) {
     if table.len() < 7 * rows {
         return (11, 0);
     }
-    let mut station = 0;
-    for row in table[..7 * rows].chunks_exact_mut(7) {
-        row.copy_from_slice(&runoff.row(station.min(runoff.length)));
-        station += runoff.step;
+    let table = &mut table[..7 * rows];
+    match runoff.axis {
+        Axis::Relative(axis) => runoff.fill(table, |_| (0, axis)),
+        Axis::Absolute { height, grade } => {
+            let unit = 1000 * runoff.unit;
+            // Whole units are set apart, so that no sum outgrows its numbers.
+            runoff.fill(table, |station| {
+                let climb = grade * station;
+                let units = height + climb.div_euclid(unit);
+                (units as i32, climb.rem_euclid(unit))
+            });
+        }
     }
     (0, rows as u32)
 }
@@ -223,11 +278,13 @@ pub fn fill_table(card: &[u32; 8], table: &mut [i32]) -> (u32, u32) {
 #[cfg(test)]
 mod tests {
     use super::fill_table;
+    use crate::cards::{absolute_cards, relative_cards};
+    use paper::card::{absolute, marked, relative};
 
     #[test]
     fn ramp() {
         let mut table = [5; 22];
-        let card = [5, 1, 30, 30000, 60, 600, 20000, 1];
+        let card = relative([5, 1, 30, 30000, 60, 600, 20000, 1]);
         assert_eq!(fill_table(&card, &mut table), (0, 3));
         assert_eq!(table[..7], [0, 0, 0, 105, 172, 105, 52]);
         assert_eq!(table[7..14], [20000, 400, 12, 93, 172, 240, 292]);
@@ -237,7 +294,7 @@ mod tests {
     #[test]
     fn two_stage() {
         let mut table = [0; 49];
-        let card = [3, 1, 700, 120_000, 40, 400, 20000, 10];
+        let card = relative([3, 1, 700, 120_000, 40, 400, 20000, 10]);
         assert_eq!(fill_table(&card, &mut table), (0, 7));
         let edges = [0, 2, 3, 5, 6].map(|row: usize| table[7 * row + 5]);
         assert_eq!(edges, [10, 22, 23, 26, 28]);
@@ -249,7 +306,7 @@ mod tests {
     #[test]
     fn kept_shoulder() {
         let mut table = [0; 35];
-        let card = [2, 1, 200, 80_000, 60, 1200, 20000, 1];
+        let card = relative([2, 1, 200, 80_000, 60, 1200, 20000, 1]);
         assert_eq!(fill_table(&card, &mut table), (0, 5));
         assert_eq!(table[21..28], [60_000, 900, -70, -6, 170, 310, 410]);
         assert_eq!(table[28..], [80_000, 1200, -202, -112, 170, 380, 530]);
@@ -259,7 +316,7 @@ mod tests {
     #[test]
     fn widening_above_the_shoulder() {
         let mut table = [0; 49];
-        let card = [5, 1, 30, 30000, 60, 3500, 5000, 1];
+        let card = relative([5, 1, 30, 30000, 60, 3500, 5000, 1]);
         assert_eq!(fill_table(&card, &mut table), (0, 7));
         assert_eq!(table[7..14], [5000, 583, 17, 87, 172, 139, 112]);
         assert_eq!(table[42..], [30000, 3500, -233, -173, 172, 307, 412]);
@@ -267,7 +324,7 @@ mod tests {
 
     #[test]
     fn refused() {
-        let number = |card| fill_table(&card, &mut []).0;
+        let number = |eight| fill_table(&relative(eight), &mut []).0;
         assert_eq!(number([1, 1, 125, 55000, 60, 0, 20000, 1]), 8);
         assert_eq!(number([1, 1, 125, 60000, 60, 0, 20000, 1]), 11);
         assert_eq!(number([2, 1, 225, 79999, 40, 0, 20000, 1]), 4);
@@ -280,5 +337,43 @@ mod tests {
         assert_eq!(number([2, 1, 1000, 120_000, 40, 3501, 20000, 1]), 6);
         assert_eq!(number([2, 1, 1001, 120_000, 40, 1, 20000, 1]), 6);
         assert_eq!(number([0, 1, 1001, 120_000, 40, 1, 0, 1]), 1);
+        assert_eq!(number([2, 1, 1000, 120_000, 40, -1, 20000, 1]), 6);
+    }
+
+    #[test]
+    fn absolute_ramp() {
+        let mut table = [5; 22];
+        let card = absolute([5, 1, 30, 30000, 60, 600, 20000, 1], 250_000, -35);
+        assert_eq!(fill_table(&card, &mut table), (0, 3));
+        let first = [0, 0, 249_827, 249_932, 250_000, 249_932, 249_880];
+        let second = [20000, 400, 249_139, 249_220, 249_300, 249_367, 249_420];
+        let last = [30000, 600, 248_710, 248_779, 248_950, 249_085, 249_190];
+        assert_eq!(table[..21], *[first, second, last].as_flattened());
+        assert_eq!(table[21], 5);
+    }
+
+    #[test]
+    fn heights_and_grades_refused() {
+        let flat = [3, 1, 700, 120_000, 40, 400, 20000, 10];
+        let number =
+            |mark, height, grade| fill_table(&marked(flat, mark, height, grade), &mut []).0;
+        assert_eq!((number(1, 5, 0), number(1, 0, 81)), (34, 35));
+        assert_eq!((number(1, 5, 81), number(0, 5, 81)), (34, 11));
+        assert_eq!(
+            (number(1, -100_000, -80), number(-1, 9_000_000, 80)),
+            (11, 11)
+        );
+        assert_eq!((number(1, -100_010, 0), number(2, 9_000_010, 0)), (34, 34));
+    }
+
+    /// The cards that are timed, beside the paper's rows.
+    #[test]
+    fn tables_of_the_paper() {
+        for card in [relative_cards(), absolute_cards()].as_flattened() {
+            let (mut table, mut due_table) = ([5; 2107], [5; 2107]);
+            let due = paper::fill_table(card, &mut due_table);
+            assert_eq!(fill_table(card, &mut table), (due.number, due.count));
+            assert_eq!(table, due_table, "{card:?}");
+        }
     }
 }

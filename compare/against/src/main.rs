@@ -15,6 +15,8 @@ mod cards;
 mod day_case;
 mod day_tally;
 mod days;
+#[cfg(test)]
+mod found;
 mod lent;
 mod list_case;
 mod list_tally;

@@ -2,6 +2,7 @@
 
 use crate::book_case::{Call, Loan};
 use crate::cards::Numbers;
+use crate::found::all_are_found;
 use crate::lists::{Curve, CARD, GRADE, HEIGHT, LISTED, MARK, MOST_CURVES};
 use crate::work::book;
 use crate::DEFAULT;
@@ -564,18 +565,10 @@ const WRONG_REFUSALS: [(&str, Call); 13] = [
 
 /// The first book for which the program differs from the paper.
 fn first_difference(program: Call) -> Option<u64> {
-    let differs = |&index: &u64| {
+    (0..FIRST_BOOKS).find(|&index| {
         let (_, case) = book(DEFAULT.seed, index, program);
         !case.due.unlike(&case.came).is_empty()
-    };
-    (0..FIRST_BOOKS).find(differs)
-}
-
-fn all_are_found(programs: &[(&str, Call)]) {
-    for (name, program) in programs {
-        let found = first_difference(*program);
-        assert!(found.is_some(), "{name}");
-    }
+    })
 }
 
 /// Without this, a comparison that always differs would find every wrong program.
@@ -588,20 +581,20 @@ fn right_programs_do_not_differ() {
 
 #[test]
 fn wrong_words_are_found() {
-    all_are_found(&WRONG_WORDS);
+    all_are_found(first_difference, &WRONG_WORDS);
 }
 
 #[test]
 fn wrong_counts_are_found() {
-    all_are_found(&WRONG_COUNTS);
+    all_are_found(first_difference, &WRONG_COUNTS);
 }
 
 #[test]
 fn wrong_lists_are_found() {
-    all_are_found(&WRONG_LISTS);
+    all_are_found(first_difference, &WRONG_LISTS);
 }
 
 #[test]
 fn wrong_refusals_are_found() {
-    all_are_found(&WRONG_REFUSALS);
+    all_are_found(first_difference, &WRONG_REFUSALS);
 }

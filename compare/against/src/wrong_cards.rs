@@ -3,6 +3,7 @@
 
 use crate::card_case::{Call, Loan};
 use crate::cards::{Numbers, GRADE, HEIGHT, LENGTH, MARK, STEP, UNIT};
+use crate::found::all_are_found;
 use crate::work::card;
 use crate::DEFAULT;
 use paper::fraction::{fraction, whole, Fraction};
@@ -620,18 +621,10 @@ const WRONG_READING: [(&str, Call); 13] = [
 
 /// The first card for which the program differs from the paper.
 fn first_difference(program: Call) -> Option<u64> {
-    let differs = |&index: &u64| {
+    (0..FIRST_CARDS).find(|&index| {
         let (_, case) = card(DEFAULT.seed, index, program);
         !case.due.unlike(&case.came).is_empty()
-    };
-    (0..FIRST_CARDS).find(differs)
-}
-
-fn all_are_found(programs: &[(&str, Call)]) {
-    for (name, program) in programs {
-        let found = first_difference(*program);
-        assert!(found.is_some(), "{name}");
-    }
+    })
 }
 
 /// Without this, a comparison that always differs would find every wrong program.
@@ -659,30 +652,30 @@ fn right_programs_do_not_differ() {
 
 #[test]
 fn wrong_rounding_is_found() {
-    all_are_found(&WRONG_ROUNDING);
+    all_are_found(first_difference, &WRONG_ROUNDING);
 }
 
 #[test]
 fn wrong_axes_are_found() {
-    all_are_found(&WRONG_AXES);
+    all_are_found(first_difference, &WRONG_AXES);
 }
 
 #[test]
 fn wrong_lines_are_found() {
-    all_are_found(&WRONG_LINES);
+    all_are_found(first_difference, &WRONG_LINES);
 }
 
 #[test]
 fn wrong_limits_are_found() {
-    all_are_found(&WRONG_LIMITS);
+    all_are_found(first_difference, &WRONG_LIMITS);
 }
 
 #[test]
 fn wrong_order_is_found() {
-    all_are_found(&WRONG_ORDER);
+    all_are_found(first_difference, &WRONG_ORDER);
 }
 
 #[test]
 fn wrong_reading_is_found() {
-    all_are_found(&WRONG_READING);
+    all_are_found(first_difference, &WRONG_READING);
 }

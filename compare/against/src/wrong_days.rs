@@ -3,6 +3,7 @@
 use crate::cards::{Numbers, CARD_NUMBERS, HEIGHT, LENGTH, MARK, STEP};
 use crate::day_case::{Call, Loan};
 use crate::days::{MOST_CARDS, REPLY, ROW};
+use crate::found::all_are_found;
 use crate::lent::ABOVE_16_BITS;
 use crate::work::day;
 use crate::DEFAULT;
@@ -351,18 +352,10 @@ const WRONG_HEIGHTS: [(&str, Call); 9] = [
 
 /// The first day for which the program differs from the paper.
 fn first_difference(program: Call) -> Option<u64> {
-    let differs = |&index: &u64| {
+    (0..FIRST_DAYS).find(|&index| {
         let (_, case) = day(DEFAULT.seed, index, program);
         !case.due.unlike(&case.came).is_empty()
-    };
-    (0..FIRST_DAYS).find(differs)
-}
-
-fn all_are_found(programs: &[(&str, Call)]) {
-    for (name, program) in programs {
-        let found = first_difference(*program);
-        assert!(found.is_some(), "{name}");
-    }
+    })
 }
 
 /// Without this, a comparison that always differs would find every wrong program.
@@ -375,20 +368,20 @@ fn right_programs_do_not_differ() {
 
 #[test]
 fn wrong_parts_of_the_table_are_found() {
-    all_are_found(&WRONG_PARTS);
+    all_are_found(first_difference, &WRONG_PARTS);
 }
 
 #[test]
 fn wrong_replies_are_found() {
-    all_are_found(&WRONG_REPLIES);
+    all_are_found(first_difference, &WRONG_REPLIES);
 }
 
 #[test]
 fn wrong_refusals_are_found() {
-    all_are_found(&WRONG_REFUSALS);
+    all_are_found(first_difference, &WRONG_REFUSALS);
 }
 
 #[test]
 fn wrong_heights_are_found() {
-    all_are_found(&WRONG_HEIGHTS);
+    all_are_found(first_difference, &WRONG_HEIGHTS);
 }

@@ -1,9 +1,10 @@
 //! Wrong programs for writing a book, as to marks, heights and grades: the comparison must find each of them.
 
+use crate::found::all_are_found;
 use crate::list_case::{Call, Loan};
 use crate::lists::{Curve, CARD, GRADE, HEIGHT, MARK};
 use crate::wrong_lists::{
-    accept, all_are_found, beside_mark_fits, curves, datum_fits, eight_fit, fits, last_two_fit,
+    accept, beside_mark_fits, curves, datum_fits, eight_fit, first_difference, fits, last_two_fit,
     mark_fits, numbered, refuse, right, right_for, styled, tested, with_curves, Style, Test,
     LENGTH, NAMES, NUMBERS, RIGHT, ROOM, TWINS,
 };
@@ -287,20 +288,20 @@ const WRONG_BODIES: [(&str, Call); 11] = [
 
 #[test]
 fn wrong_marks_are_found() {
-    all_are_found(&WRONG_MARKS);
+    all_are_found(first_difference, &WRONG_MARKS);
 }
 
 #[test]
 fn numbers_below_0_are_found() {
-    all_are_found(&WRONG_BELOW_0);
+    all_are_found(first_difference, &WRONG_BELOW_0);
 }
 
 #[test]
 fn wrong_heights_are_found() {
-    all_are_found(&WRONG_HEIGHTS);
+    all_are_found(first_difference, &WRONG_HEIGHTS);
 }
 
 #[test]
 fn wrong_bodies_are_found() {
-    all_are_found(&WRONG_BODIES);
+    all_are_found(first_difference, &WRONG_BODIES);
 }

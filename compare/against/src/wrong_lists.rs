@@ -1,5 +1,6 @@
 //! Wrong programs for writing a book: the comparison must find each of them.
 
+use crate::found::all_are_found;
 use crate::lent::ABOVE_16_BITS;
 use crate::list_case::{Call, Loan};
 use crate::lists::{body_numbers, Curve, CARD, GREATEST_BOOK, HEIGHT, LISTED, MARK, MOST_CURVES};
@@ -807,19 +808,11 @@ const WRONG_WRITING: [(&str, Call); 13] = [
 ];
 
 /// The first list for which the program differs from the paper.
-fn first_difference(program: Call) -> Option<u64> {
-    let differs = |&index: &u64| {
+pub fn first_difference(program: Call) -> Option<u64> {
+    (0..FIRST_LISTS).find(|&index| {
         let (_, case) = list(DEFAULT.seed, index, program);
         !case.due.unlike(&case.came).is_empty()
-    };
-    (0..FIRST_LISTS).find(differs)
-}
-
-pub fn all_are_found(programs: &[(&str, Call)]) {
-    for (name, program) in programs {
-        let found = first_difference(*program);
-        assert!(found.is_some(), "{name}");
-    }
+    })
 }
 
 /// Without this, a comparison that always differs would find every wrong program.
@@ -832,40 +825,40 @@ fn right_programs_do_not_differ() {
 
 #[test]
 fn wrong_order_is_found() {
-    all_are_found(&WRONG_ORDER);
+    all_are_found(first_difference, &WRONG_ORDER);
 }
 
 #[test]
 fn wrong_lengths_are_found() {
-    all_are_found(&WRONG_LENGTHS);
+    all_are_found(first_difference, &WRONG_LENGTHS);
 }
 
 #[test]
 fn wrong_names_are_found() {
-    all_are_found(&WRONG_NAMES);
+    all_are_found(first_difference, &WRONG_NAMES);
 }
 
 #[test]
 fn wrong_places_are_found() {
-    all_are_found(&WRONG_PLACES);
+    all_are_found(first_difference, &WRONG_PLACES);
 }
 
 #[test]
 fn wrong_twins_are_found() {
-    all_are_found(&WRONG_TWINS);
+    all_are_found(first_difference, &WRONG_TWINS);
 }
 
 #[test]
 fn wrong_room_is_found() {
-    all_are_found(&WRONG_ROOM);
+    all_are_found(first_difference, &WRONG_ROOM);
 }
 
 #[test]
 fn wrong_lines_are_found() {
-    all_are_found(&WRONG_LINES);
+    all_are_found(first_difference, &WRONG_LINES);
 }
 
 #[test]
 fn wrong_writing_is_found() {
-    all_are_found(&WRONG_WRITING);
+    all_are_found(first_difference, &WRONG_WRITING);
 }

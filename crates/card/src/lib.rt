@@ -1,4 +1,5 @@
-// The curve card and what every method asks of it: the profiles, the least lengths, the reasons that come before and after a method's own, and where rows stand.
+// The curve card and what every method asks of it: the profiles, the least lengths, the reasons that come before and after a method's own, where
+// rows stand, and how their numbers are rounded.
 mod conditions;
 mod tables;
 
@@ -11,13 +12,16 @@ use crate::tables::CLOTHOIDS;
 use crate::tables::PROFILES;
 use crate::tables::lesser;
 use crate::tables::longer;
+use rounding::Tie;
+use rounding::nearest;
 ghost use mathlib.Core.Path.{_≡_};
 ghost use Prim.Native.Nat.{_≤_, _<_};
 ghost use lib.ListN.{drop};
+ghost use Rattle.rounding.specs.Nearest.{tieOf, nearestOf};
 ghost use Rattle.card.specs.Profile.{profileAt, addedSlope};
 ghost use Rattle.card.specs.Clothoid.{leastFound};
 ghost use Rattle.card.specs.Reasons.{first, testsBy, testsDatum, refusalBefore, refusalAfter, refusalRoom};
-ghost use Rattle.card.specs.Rows.{rowsTo, stationTo};
+ghost use Rattle.card.specs.Rows.{rowsTo, stationTo, tie};
 
 // What the heights of a card count from: its own nought, the inner brow at station 0; or the benchmark, above which the axis stands at
 // `height` mm at station 0 and climbs at `grade` per mille.
@@ -243,4 +247,19 @@ pub fn station_of(end: u32, step: u32, row: u32) -> u64
     let far = end as u64;
     let d = (row as u64) * (step as u64);
     if d < far { d } else { far }
+}
+
+// Where a halfway value goes: in whole millimetres to the higher number, in centimetres to the lower.
+fn tie_of(unit: u64) -> Tie
+    ensures { λ r. ⌜ tieOf r ≡ tie unit ⌝ }
+{
+    if unit == 1 { Tie::Higher } else { Tie::Lower }
+}
+
+// num / den micrometres in counts of the unit, which is in mm: the nearest, halfway as the unit has it; 0 beyond the sizes that 64 bits take.
+pub fn in_units(num: i64, den: u64, unit: u64) -> i32
+    ensures { λ r. ⌜ r ≡ nearestOf (tie unit) unit num den ⌝ }
+{
+    let rule = tie_of(unit);
+    nearest(num, den, unit, rule)
 }

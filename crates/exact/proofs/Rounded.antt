@@ -6,7 +6,7 @@ use native.Mathlib.Nat.{mul-le-mul-left, mul-le-mul-right, mul-pos, le-of-mul-le
 use native.Mathlib.Omega.{arith}
 use lib.IntN.{ℤ, pos, negsuc, natAbs, _+ℤ_, _-ℤ_, _*ℤ_}
 use lib.Signed.{_≤ℤ_}
-use Rattle.exact.specs.Exact.{Exact, _⊕_, _⊖_, _≼_, _≈_}
+use Rattle.exact.specs.Exact.{Exact, ratio, _⊕_, _⊖_, _≼_, _≈_}
 use Rattle.exact.specs.Rounding.{Tie, lower, higher, units, Prefers, Nearest, taken, rounded, RoundingTheorem}
 use Rattle.exact.specs.Parts.{up, dn}
 use Rattle.exact.proofs.Integers.{ints, add-parts, sub-parts, mul-parts, parts-le, parts-eq, abs-parts, size-parts}
@@ -94,6 +94,12 @@ pub rounded-size :
 rounded-size tie {u} unit x proper k h =
     let wide : k * x .den * 1 ≤ k * x .den * u = mul-le-mul-left (k * x .den) unit in
     half-size (rounded tie u x) (rounded-half tie unit x proper) (omega (arith, abs-parts (x .num))) (omega (arith, abs-parts (x .num)))
+
+-- nought is rounded to nought, over any denominator
+pub rounded-nought : (tie : Tie) {u : ℕ} → 0 < u → (l : ℕ) → 0 < l → rounded tie u (ratio 0 0 l) ≡ pos 0
+rounded-nought tie {u} unit l proper =
+    let n = rounded tie u (ratio 0 0 l) in
+    parts-eq n (pos 0) (omega (arith, rounded-size tie unit (ratio 0 0 l) proper 0 (omega arith), abs-parts n))
 
 -- ---- the distance
 -- x is n units of u and rest / den

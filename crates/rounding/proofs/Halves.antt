@@ -17,7 +17,7 @@ at-most {m = m} {q} {k} h f g =
     let less : up q + dn k < up k + dn q + 1 = lt-of-mul-lt-mul-right m (omega (arith, f .low, g .high)) in
     omega arith
 
-pub floor-unique : {a : ℤ} {m : ℕ} {q k : ℤ} → 0 < m → Floor a m q → Floor a m k → q ≡ k
+floor-unique : {a : ℤ} {m : ℕ} {q k : ℤ} → 0 < m → Floor a m q → Floor a m k → q ≡ k
 floor-unique {q = q} {k} h f g = parts-eq q k (omega (arith, at-most h f g, at-most h g f))
 
 pub halved :

@@ -15,3 +15,4 @@ pub mod RowsWritten
 pub mod Fields
 pub mod StarredReadings
 pub mod AbsoluteComputed
+pub mod HalvesComputed

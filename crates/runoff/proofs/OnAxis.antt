@@ -34,7 +34,7 @@ module _ {a : Axis} {up down over u : ℕ} (z : Footed a up down over u) where
 
   near-few : natAbs near ≤ 4194304
   near-few =
-      rounded-size tie (omega (arith, z .sized .unit)) (ratio lifted down over) (z .sized .some) 4194304
+      rounded-size (tie u) (omega (arith, z .sized .unit)) (ratio lifted down over) (z .sized .some) 4194304
       (omega (arith, z .sized .high, z .sized .low, size-parts (pos lifted -ℤ pos down), sub-parts (pos lifted) (pos down)))
 
   pub total-fits : SFits w32 (near +ℤ a .count)
@@ -50,14 +50,14 @@ module _ {a : Axis} {up down over u : ℕ} (z : Footed a up down over u) where
 
   pub on-axis : near +ℤ a .count ≡ inUnits u (heightOf u a ⊕ ratio up down over)
   on-axis =
-      let laws = rounding-laws tie (1000 * u) (omega (arith, z .sized .unit)) in
+      let laws = rounding-laws (tie u) (1000 * u) (omega (arith, z .sized .unit)) in
       sym
       (laws .same (heightOf u a ⊕ ratio up down over) (ratio lifted down over ⊕ units (1000 * u) (a .count)) (omega (arith, z .sized .some)) (omega (arith, z .sized .some)) same-height
       ∙ laws .shift (ratio lifted down over) (a .count) (z .sized .some))
 
 -- ---- equal heights have the same count
 same-count : (u : ℕ) (x y : Exact) → 1 ≤ u → 0 < x .den → 0 < y .den → x ≈ y → inUnits u x ≡ inUnits u y
-same-count u x y some = rounding-laws tie (1000 * u) (omega arith) .same x y
+same-count u x y some = rounding-laws (tie u) (1000 * u) (omega arith) .same x y
 
 -- a line whose parts have the axis in them, without it
 without-axis : (x : Section) {y : Exact} {p q e : ℕ} → Is y (axisHeight x * e + p) q e → Is (y ⊖ axis x) p q e

@@ -4,16 +4,13 @@ use mathlib.Core.Path.{_≡_, sym, ap, _∙_}
 use Prim.Native.Nat.{ℕ, _+_, _*_, _-_, _≤_, _<_, max}
 use native.Mathlib.Nat.{mul-le-mul, mul-le-mul-right, mul-pos}
 use native.Mathlib.Omega.{arith}
-use lib.IntN.{ℤ, pos, _+ℤ_, _-ℤ_, _*ℤ_}
+use lib.IntN.{pos}
 use Rattle.exact.specs.Exact.{Exact, whole, ratio, _⊕_, _⊗_}
 use Rattle.exact.specs.Parts.{Is}
-use Rattle.exact.specs.Rounding.{units, taken, rounded}
-use Rattle.exact.proofs.Integers.{add-parts, sub-parts, mul-parts}
-use Rattle.exact.proofs.Floor.{Floor, floor-is}
-use Rattle.exact.proofs.Rounded.{taken-most}
+use Rattle.exact.specs.Rounding.{units, rounded}
+use Rattle.exact.proofs.Rounded.{rounded-nought}
 use Rattle.exact.proofs.Is.{is-self, is-one, is-net, is-sum, is-times, is-eq}
 use Rattle.rounding.specs.Nearest.{mostOver}
-use Rattle.rounding.proofs.Halves.{floor-unique}
 use Rattle.rounding.proofs.Parts.{Line, counted}
 use Rattle.card.specs.Rows.{tie, inUnits}
 use Rattle.runoff.specs.declared.Runoff.{Runoff}
@@ -82,29 +79,12 @@ module _ {r : Runoff} {d u : ℕ} (limits : Limits r) (on : d ≤ r .clothoid) (
             };
       }
 
-  -- nought is rounded to nought, over any denominator
-  nought : (l : ℕ) → 0 < l → rounded tie (1000 * u) (ratio 0 0 l) ≡ pos 0
-  unfolding rounded
-  nought l some =
-      let wide : 0 < l * (1000 * u) = mul-pos some (omega arith) in
-      let z : ℤ = pos 2 *ℤ (pos 0 -ℤ pos 0) +ℤ (pos (l * (1000 * u)) -ℤ pos (taken tie)) in
-      let half : Floor z (2 * (l * (1000 * u))) (pos 0) =
-      omega (
-        arith,
-        taken-most tie,
-        add-parts (pos 2 *ℤ (pos 0 -ℤ pos 0)) (pos (l * (1000 * u)) -ℤ pos (taken tie)),
-        mul-parts (pos 2) (pos 0 -ℤ pos 0),
-        sub-parts (pos 0) (pos 0),
-        sub-parts (pos (l * (1000 * u))) (pos (taken tie)),
-      ) in
-      floor-unique {a = z} (omega arith) (floor-is z (2 * (l * (1000 * u))) (omega arith)) half
-
   pub not-widened : r .«full_widening» ≡ 0 → pos 0 ≡ inUnits u (whole 1000 ⊗ widening (sectionIn r) (whole d))
   not-widened none =
       let still : 0 ≡ 1000 * (r .«full_widening» * d) = rw none (omega arith) in
-      sym (nought (r .clothoid) (limits .long))
-      ∙ ap (λ (n : ℕ). rounded tie (1000 * u) (ratio n 0 (r .clothoid))) still
-      ∙ counted tie widening-line
+      sym (rounded-nought (tie u) (omega arith) (r .clothoid) (limits .long))
+      ∙ ap (λ (n : ℕ). rounded (tie u) (1000 * u) (ratio n 0 (r .clothoid))) still
+      ∙ counted (tie u) widening-line
 
 module _ {r : Runoff} {d : ℕ} {s : Slopes} {a : Axis} {u : ℕ} (z : Ready r d s a u) where
   abbrev x : Section

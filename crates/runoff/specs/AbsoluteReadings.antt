@@ -47,8 +47,8 @@ pub record AbsoluteReadings : Type 0 where
   pub ramp-reply : replyTo fallingRamp 21 ≡ record { number = 0; count = 3 }
   pub ramp-rows :
       rows fallingRamp
-      ≡ pos 0 ∷ pos 0 ∷ pos 249827 ∷ pos 249932 ∷ pos 250000 ∷ pos 249932 ∷ pos 249880 ∷
-      pos 20000 ∷ pos 400 ∷ pos 249139 ∷ pos 249220 ∷ pos 249300 ∷ pos 249367 ∷ pos 249420 ∷
+      ≡ pos 0 ∷ pos 0 ∷ pos 249828 ∷ pos 249933 ∷ pos 250000 ∷ pos 249933 ∷ pos 249880 ∷
+      pos 20000 ∷ pos 400 ∷ pos 249140 ∷ pos 249221 ∷ pos 249300 ∷ pos 249368 ∷ pos 249420 ∷
       pos 30000 ∷ pos 600 ∷ pos 248710 ∷ pos 248779 ∷ pos 248950 ∷ pos 249085 ∷ pos 249190 ∷ []
   -- heights at both limits with grades of either limit, at the last station of the longest clothoid
   pub lowest-falling :

@@ -210,7 +210,7 @@ pub record Boundaries : Type 0 where
   -- and one whose widening is above its shoulder
   pub widest-left-row :
       cells (rowOf widest 6000)
-      ≡ pos 6000 ∷ pos 350 ∷ pos 10 ∷ pos 94 ∷ pos 172 ∷ pos 125 ∷ pos 88 ∷ []
+      ≡ pos 6000 ∷ pos 350 ∷ pos 11 ∷ pos 95 ∷ pos 173 ∷ pos 125 ∷ pos 89 ∷ []
   pub widest-kept-row :
       cells (rowOf widest 60000)
-      ≡ pos 60000 ∷ pos 3500 ∷ negℤ (pos 233) ∷ negℤ (pos 173) ∷ pos 172 ∷ pos 307 ∷ pos 412 ∷ []
+      ≡ pos 60000 ∷ pos 3500 ∷ negℤ (pos 232) ∷ negℤ (pos 172) ∷ pos 173 ∷ pos 308 ∷ pos 413 ∷ []

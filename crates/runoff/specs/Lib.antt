@@ -11,3 +11,4 @@ pub mod Accuracy
 pub mod Readings
 pub mod AbsoluteReadings
 pub mod Boundaries
+pub mod Halves

@@ -1,5 +1,5 @@
 -- Document 01, "Readings at the edges": the starred ones, in the paper's order, as one statement about the definitions; the last as document 02,
--- Slip 1, changes it.
+-- Slip 1, changes it, the RAMP rows as Slip 6 does.
 -- Numbers left out of a reading are any numbers such that no other refusal applies, or any numbers at all where nothing depends on them.
 -- Assumes nothing.
 use mathlib.Core.Path.{_≡_}
@@ -44,9 +44,9 @@ pub record Readings : Type 0 where
   pub ramp-reply : replyTo ramp 21 ≡ record { number = 0; count = 3 }
   pub ramp-rows :
       rows ramp
-      ≡ pos 0 ∷ pos 0 ∷ pos 0 ∷ pos 105 ∷ pos 172 ∷ pos 105 ∷ pos 52 ∷
-      pos 20000 ∷ pos 400 ∷ pos 12 ∷ pos 93 ∷ pos 172 ∷ pos 240 ∷ pos 292 ∷
-      pos 30000 ∷ pos 600 ∷ negℤ (pos 68) ∷ pos 1 ∷ pos 172 ∷ pos 307 ∷ pos 412 ∷ []
+      ≡ pos 0 ∷ pos 0 ∷ pos 0 ∷ pos 105 ∷ pos 173 ∷ pos 105 ∷ pos 53 ∷
+      pos 20000 ∷ pos 400 ∷ pos 12 ∷ pos 93 ∷ pos 173 ∷ pos 240 ∷ pos 293 ∷
+      pos 30000 ∷ pos 600 ∷ negℤ (pos 67) ∷ pos 2 ∷ pos 173 ∷ pos 308 ∷ pos 413 ∷ []
   -- profile 1, R 125, v 60, level: L 55000 gives 8; L 60000 passes
   pub added-met : (W step unit : ℕ) → Gives 8 (8 ∷ []) (card 1 1 125 55000 60 W step unit)
   pub added-passes : (W step unit : ℕ) → Gives 0 (8 ∷ []) (card 1 1 125 60000 60 W step unit)

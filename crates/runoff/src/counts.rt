@@ -1,6 +1,5 @@
 // Heights in counts of the unit: the one place of a row where a number may be below nought.
-use rounding::Tie;
-use rounding::nearest;
+use card::in_units;
 ghost use mathlib.Core.Path.{_≡_};
 ghost use Rattle.exact.specs.Exact.{ratio};
 ghost use Rattle.rounding.specs.Nearest.{Sized};
@@ -12,5 +11,5 @@ pub(crate) fn height(up: u64, down: u64, over: u64, unit: u64) -> i32
     ensures { λ r. ⌜ r ≡ inUnits unit (ratio up down over) ⌝ }
 {
     let num = up as i64 - down as i64;
-    nearest(num, over, unit, Tie::Lower)
+    in_units(num, over, unit)
 }

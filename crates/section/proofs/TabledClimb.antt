@@ -14,4 +14,4 @@ tabled added x ok unit some d e h to =
     let a = on-whole x d (omega arith) in
     let b = on-whole x e to in
     let proper = climbs added x ok _ _ a b .fractions in
-    rounded-climb tie (1000 * unit) d e (omega arith) (proper .0) (proper .1) (edge-climb ok a b (whole-le d e h))
+    rounded-climb (tie unit) (1000 * unit) d e (omega arith) (proper .0) (proper .1) (edge-climb ok a b (whole-le d e h))

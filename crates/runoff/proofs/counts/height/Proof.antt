@@ -20,16 +20,16 @@ cast-num-2 c = search needs
 sub-num : tie.Need-sub-num
 sub-num c = fits-as (parts-back (c .pre)) (difference-fits (c .pre))
 
-nearest-requires : tie.Need-nearest-requires
-nearest-requires c κs = search needs
+in-units-requires : tie.Need-in-units-requires
+in-units-requires c κs = search needs
 
 returns : tie.Need-returns
 returns c =
     let s = c .before in
-    toZ-ofZ (record { sfits = c .nearest .ok })
-    ∙ c .nearest .ensures
-    ∙ ap (λ (n : ℤ). nearestOf tieRule (s .args .unit) n (s .args .over)) (back (parts-back (s .pre)) (difference-fits (s .pre)))
-    ∙ given-rounded (s .pre) tieRule
+    toZ-ofZ (record { sfits = c .in-units .ok })
+    ∙ c .in-units .ensures
+    ∙ ap (λ (n : ℤ). nearestOf (tieRule (s .args .unit)) (s .args .unit) n (s .args .over)) (back (parts-back (s .pre)) (difference-fits (s .pre)))
+    ∙ given-rounded (s .pre) (tieRule (s .args .unit))
 
 pub height-spec : {M : Type 1} → statement M
-height-spec = tie.close (tie.spec cast-num cast-num-2 sub-num nearest-requires returns)
+height-spec = tie.close (tie.spec cast-num cast-num-2 sub-num in-units-requires returns)

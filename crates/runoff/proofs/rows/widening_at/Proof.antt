@@ -36,7 +36,7 @@ height-requires : tie.Need-height-requires
 height-requires c κs = line (c .before) .sized
 
 returns-2 : tie.Need-returns-2
-returns-2 c = toZ-ofZ (record { sfits = c .height .ok }) ∙ c .height .ensures ∙ counted tieRule (line (c .before .before))
+returns-2 c = toZ-ofZ (record { sfits = c .height .ok }) ∙ c .height .ensures ∙ counted (tieRule (c .before .before .args .unit)) (line (c .before .before))
 
 pub widening-at-spec : {M : Type 1} → statement M
 widening-at-spec =

@@ -15,17 +15,17 @@ import reckon
 
 RELATIVE = (0, 0, 0)
 RAMP = (5, 1, 30, 30000, 60, 600, 20000, 1, *RELATIVE)
-# Document 01 prints RAMP's rows; a reckoning that gives others ends here.
+# Slip 6 prints RAMP's rows; a reckoning that gives others ends here.
 RAMP_ROWS = [
-    [0, 0, 0, 105, 172, 105, 52],
-    [20000, 400, 12, 93, 172, 240, 292],
-    [30000, 600, -68, 1, 172, 307, 412],
+    [0, 0, 0, 105, 173, 105, 53],
+    [20000, 400, 12, 93, 173, 240, 293],
+    [30000, 600, -67, 2, 173, 308, 413],
 ]
 # The same card 250 m above the benchmark on a road that falls by 35 permille; docs/ABSOLUTE-RAMP.md has its rows, by hand.
 RAISED = (*RAMP[:8], 1, 250000, -35)
 RAISED_ROWS = [
-    [0, 0, 249827, 249932, 250000, 249932, 249880],
-    [20000, 400, 249139, 249220, 249300, 249367, 249420],
+    [0, 0, 249828, 249933, 250000, 249933, 249880],
+    [20000, 400, 249140, 249221, 249300, 249368, 249420],
     [30000, 600, 248710, 248779, 248950, 249085, 249190],
 ]
 # "L 110000: 7 rows; a table of 48 numbers gives 11, of 49 passes." (document 01)
@@ -34,6 +34,10 @@ SEVEN = (1, 1, 2000, 110000, 20, 0, 20000, 1, *RELATIVE)
 STAKED = (3, 1, 700, 120000, 40, 400, 20000, 10, *RELATIVE)
 # L 300 m and a step of 1 m: no card has more than these 301 rows.
 LONGEST = (2, 2, 400, 300000, 60, 1200, 1000, 1, *RELATIVE)
+# All six numbers of a row stand halfway: at 39000 in mm; on an odd grade at 59500 in mm; at the end in cm, on an odd grade too.
+HALFWAY = (5, 1, 60, 40000, 50, 2500, 19500, 1, *RELATIVE)
+HALFWAY_ON_GRADE = (1, 1, 200, 70000, 60, 1250, 14875, 1, *RELATIVE)
+HALFWAY_IN_CM = (1, 1, 150, 65000, 48, 625, 20000, 10, *RELATIVE)
 # RAMP's, 1 mm too short: refused with 4.
 SHORT = (5, 1, 30, 29999, 60, 600, 20000, 1, *RELATIVE)
 # The greatest and the least number of a card.
@@ -155,6 +159,7 @@ def right_days():
         day([RAMP] * 65, 1365, 130), day([RAMP] * 65, 1365, 129), day([RAMP] * 65, 1365, 128), day([RAMP] * 65, 0, 0, "z"),
         day([RAMP] + [SHORT] * 64, 21, 130)]
     yield from absolute_days()
+    yield from halfway_days()
     yield from other_lists_days()
 
 
@@ -179,7 +184,7 @@ def absolute_days():
         day([on(LONGEST, *datum), on(in_cm(LONGEST), *datum)], 4214, 4, shown=ends) for datum in limits]
     yield "Height 0 and grade 0 beside a relative card: all heights differ by the axis, 225 mm in the first two days.", [
         day([card, on(card, 0, 0)], 98, 4) for card in (SEVEN, bend, STAKED, RAMP)]
-    yield "The axis halfway between two units, above nought and below.", [
+    yield "In cm the axis halfway between two units, above nought and below.", [
         day([on(close, height, grade)], 175, 2, shown=[0, 1, 2, 3, 23, 24])
         for height, grade in ((0, 1), (0, -1), (-10, 1), (10, -1), (-100000, 80), (9000000, -80))]
     yield "34: heights on either side of the limits, whole numbers of units or not.", [
@@ -194,6 +199,16 @@ def absolute_days():
         day([RAISED, on(RAMP, 9000001, 0), on(RAMP, 0, 81)], 20, 6), day([on(RAMP, 5, 81), on(in_cm(RAMP), 5, 0)], 0, 4, "z")]
     yield "64 absolute cards: all fit; one number short.", [
         day([RAISED] * 64, 1344, 128, shown=[0, 1, 2, 189, 190, 191]), day([RAISED] * 64, 1343, 128, shown=[0, 188])]
+
+
+def halfway_days():
+    """Days of Slip 6."""
+    heights_and_grades = [(height, grade) for height in (-100000, 0, 9000000) for grade in (1, -1)]
+    yield "All six numbers of a row halfway, in mm and in cm; each card in the other unit too.", [
+        day([HALFWAY, in_cm(HALFWAY)], 56, 4), day([HALFWAY_IN_CM, changed(HALFWAY_IN_CM, 7, 1)], 70, 4)]
+    yield "The same of absolute cards, with heights above nought and below.", [
+        day([on(HALFWAY_ON_GRADE, *datum) for datum in heights_and_grades], 252, 12),
+        day([on(HALFWAY_IN_CM, *datum) for datum in heights_and_grades], 210, 12)]
 
 
 def other_lists_days():
@@ -249,7 +264,7 @@ def wrong_days():
     many = day([RAMP] * 65, 1365, 129)
     yield "RAMP by itself: each figure one too high.", list(one_up(ramp))
     yield "The inner brow without its minus; places one too low.", [
-        altered(ramp, 6, 4, 68), altered(ramp, 7, 1, 20), altered(ramp, 7, 2, 1)]
+        altered(ramp, 6, 4, 67), altered(ramp, 7, 1, 20), altered(ramp, 7, 2, 1)]
     yield "The count of accepted cards; rows of a refused card; its number lost.", [
         altered(mixed, 4, 2, 2), altered(mixed, 6, 3, 3), altered(mixed, 6, 2, 0)]
     yield "The table that ends inside a card: no 11, and the third card refused after it.", [
@@ -259,6 +274,7 @@ def wrong_days():
     yield "29: 30 before it, not given, the count of cards given, the table written, the reply list written.", [
         altered(many, 2, 1, 30), altered(many, 2, 1, 0), altered(many, 2, 2, 65), altered(many, 3, 1, 1365), altered(many, 3, 2, 129)]
     yield from wrong_absolute_days()
+    yield from wrong_halfway_days()
 
 
 def wrong_absolute_days():
@@ -270,12 +286,12 @@ def wrong_absolute_days():
     axis = 4
     yield "RAMP above the benchmark: each figure one too high.", list(one_up(raised))
     yield "The height rounded apart from the sum, or from the relative row; the row of the relative card.", [
-        wrong_row(raised, 0, 2, 249828), wrong_row(raised, 1, 2, 249140), wrong_row(raised, 0, 3, 249933), wrong_row(raised, 0, 2, 0)]
+        wrong_row(raised, 0, 2, 249827), wrong_row(raised, 1, 2, 249139), wrong_row(raised, 0, 3, 249932), wrong_row(raised, 0, 2, 0)]
     yield "The grade lost, its sign lost, times the step, times two steps; the height lost; the axis of the relative card.", [
         wrong_row(raised, 1, axis, 250000), wrong_row(raised, 1, axis, 250700), wrong_row(raised, 2, axis, 249300),
-        wrong_row(raised, 2, axis, 248600), wrong_row(raised, 2, axis, -1050), wrong_row(raised, 0, axis, 172)]
-    yield "Halfway below nought: toward nought, and the axis of -0.5 units as 0.", [
-        wrong_row(low, 0, 3, -100067), wrong_row(low, 0, 2, -100172), wrong_row(close, 1, axis, 0)]
+        wrong_row(raised, 2, axis, 248600), wrong_row(raised, 2, axis, -1050), wrong_row(raised, 0, axis, 173)]
+    yield "Halfway below nought: in mm away from nought; in cm toward nought, the axis of -0.5 units as 0.", [
+        wrong_row(low, 0, 3, -100068), wrong_row(low, 0, 2, -100173), wrong_row(close, 1, axis, 0)]
     yield "34 and 35: not given, or with a count of rows; 35 before 34; 11 before both; 34 before 10.", [
         wrong_reply(height, 0), altered(height, place_of(height, "p", 0), 3, 3), wrong_reply(grade, 0), wrong_reply(both, 35),
         wrong_reply(grade, 34), wrong_reply(day([on(RAMP, 9000001, 0)], 20, 2), 11), wrong_reply(day([on(RAMP, 0, 81)], 20, 2), 11),
@@ -286,13 +302,22 @@ def wrong_absolute_days():
         wrong_reply(day([on(RAMP, -100000, -80)], 21, 2), 35)]
     yield "34 and 35 on a relative card; marks 2 and 256 taken for relative; a number below 0 that passes, or counts without its minus.", [
         wrong_reply(day([changed(RAMP, 9, 9000001)], 21, 2), 34), wrong_reply(day([changed(RAMP, 10, 81)], 21, 2), 35),
-        wrong_row(day([changed(RAISED, 8, 2)], 21, 2), 0, axis, 172), wrong_reply(day([changed(RAISED, 8, 256, 9, 9000001)], 21, 2), 0),
+        wrong_row(day([changed(RAISED, 8, 2)], 21, 2), 0, axis, 173), wrong_reply(day([changed(RAISED, 8, 256, 9, 9000001)], 21, 2), 0),
         wrong_reply(day([changed(RAMP, 5, -1)], 21, 2), 0), wrong_reply(day([changed(RAMP, 3, -30000)], 21, 2), 0)]
+
+
+def wrong_halfway_days():
+    """Halfway by the other unit's rule, in each of the six numbers."""
+    millimetres, centimetres = day([HALFWAY], 28, 2), day([HALFWAY_IN_CM], 35, 2)
+    yield "Halfway in mm: the lower number, as it was before Slip 6.", [
+        wrong_row(millimetres, 2, column, figure) for column, figure in enumerate((2437, -113, -53, 172, 280, 364), 1)]
+    yield "Halfway in cm: the higher number.", [
+        wrong_row(centimetres, 4, column, figure) for column, figure in enumerate((63, -13, 2, 23, 41, 59), 1)]
 
 
 def main():
     if single(RAMP, 21) != (0, RAMP_ROWS):
-        sys.exit("RAMP's rows are not those of document 01")
+        sys.exit("RAMP's rows are not those of document 02, Slip 6")
     if single(RAISED, 21) != (0, RAISED_ROWS):
         sys.exit("the absolute RAMP's rows are not those of docs/ABSOLUTE-RAMP.md")
     if [single(card, 0)[0] for card in REFUSED] != [1, 2, 3, 4, 5, 6, 8, 9, 10, 34, 35]:

@@ -67,7 +67,7 @@ def beside_relative():
 
 def rounding():
     close = (3, 1, 700, 120000, 40, 400, 5000, 10)
-    several("The sum is rounded once, halfway to the lower number: the axis at whole and half units, on grades of 1 and -1.", [
+    several("The sum is rounded once, halfway in cm to the lower number: the axis at whole and half units, on grades of 1 and -1.", [
         (*close, height, grade) for height, grade in ((0, 1), (0, -1), (10, 1), (-10, -1))], (0, 1, 2, 3, 22, 23, 24))
     several("A station of no whole metre, 1 mm past a step: the grade is times the station.", [
         (5, 1, 30, 40001, 60, 600, 20000, 1, 1000, grade) for grade in (80, -80, 7)], None)

@@ -13,7 +13,7 @@ import sys
 CARD = ("profile", "R_m", "L_mm", "v_permille", "W_mm")
 COLUMNS = ("widening", "inner_brow", "inner_edge", "axis", "outer_edge", "outer_brow")
 STEPS = (1000, 2500)  # the tables of 002 stand at whole metres, but for one row at 22.5 m
-UNIT = 10  # and are printed in centimetres
+UNIT = 10  # and are printed in centimetres, in which halfway "still goes to the lower" (document 02, Slip 6)
 
 
 def blocks(rows):

@@ -2,9 +2,9 @@
 """The sheet of a book of cards, reckoned from documents 01 and 02 alone.
 
 Standard input: a book of cards. Standard output: the sheet that document 01,
-as Slips 1 and 5 of document 02 change it, says the printer prints for it. Every
-height is an exact fraction, rounded once. Nothing is shared with the printer's
-code. What is quoted stands in document 01 where no Slip is named.
+as Slips 1, 5 and 6 of document 02 change it, says the printer prints for it.
+Every height is an exact fraction, rounded once. Nothing is shared with the
+printer's code. What is quoted stands in document 01 where no Slip is named.
 
     python3 tools/reckon.py < book > sheet
 
@@ -15,7 +15,7 @@ its height and its grade, where it is absolute.
 import re
 import sys
 from fractions import Fraction
-from math import ceil
+from math import ceil, floor
 
 # "The card": h, c, p, q, m, least R, added slope level and mountain.
 # h is half the carriageway, c the shoulder, m the least shoulder, in mm;
@@ -159,9 +159,12 @@ def lines_at(card, d):
 
 # ---- rows ----
 
-def nearest(x):
-    """Rounded: "nearest, and halfway goes to the lower number"."""
-    return ceil(Fraction(x) - Fraction(1, 2))
+def rounded(length, unit):
+    """A length or a height in mm, exact, as the nearest whole count of the unit."""
+    x, half = length / unit, Fraction(1, 2)
+    # Slip 6: "in whole millimetres a halfway value goes to the higher number.
+    # In centimetres it still goes to the lower."
+    return floor(x + half) if unit == 1 else ceil(x - half)
 
 
 def stations(L, step):
@@ -171,10 +174,9 @@ def stations(L, step):
 
 def row(card, d):
     """Seven whole numbers: the station in mm, then six counts of the unit."""
-    unit = card[7]
     widening, *heights = lines_at(card, d)
-    return [d, nearest(widening / unit)] + [
-        nearest(Fraction(height) / (1000 * unit)) for height in heights]
+    lengths = [widening] + [Fraction(height, 1000) for height in heights]
+    return [d] + [rounded(length, card[7]) for length in lengths]
 
 
 # ---- the book of cards ----

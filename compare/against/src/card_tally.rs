@@ -4,14 +4,18 @@ use crate::card_case::CardCase;
 use crate::cards::{Numbers, GRADE, HEIGHT, MARK, UNIT};
 use paper::card::{Datum, GREATEST_GRADE, GREATEST_HEIGHT, GREATEST_LENGTH};
 use paper::card::{LEAST_GRADE, LEAST_HEIGHT};
-use paper::fraction::{fraction, whole};
+use paper::fraction::{fraction, whole, Fraction};
+use paper::rows::tie;
 use paper::section::{Course, Runoff};
 use paper::{stations, Card};
 
 /// Numbers in a row.
 const ROW: usize = 7;
-/// Only tables of so few rows are looked into, height by height.
+/// Only tables of so few rows are looked into, number by number.
 const FEW_ROWS: usize = 40;
+/// Units, in mm.
+const MM: u32 = 1;
+const CM: u32 = 10;
 
 /// A card as its sorts see it.
 pub struct Seen<'a> {
@@ -20,52 +24,65 @@ pub struct Seen<'a> {
     reply: u32,
     table: usize,
     rows: &'a [i32],
-    heights: Heights,
+    rounded: Rounded,
 }
 
-/// What the heights in the rows of an absolute card show.
+/// What the rounded numbers in the rows of a card show.
 #[derive(Clone, Copy, Default)]
-struct Heights {
-    /// Of some of them, the axis and the distance from it, each rounded by itself, would make another number.
+struct Rounded {
+    /// Of some heights of an absolute card, the axis and the distance from it, each rounded by itself, would make
+    /// another number.
     otherwise_apart: bool,
-    /// Some of them stand halfway between two numbers, above nought and below it.
+    /// Some heights stand halfway between two numbers, above nought and below it.
     halfway: [bool; 2],
+    /// Some widening does.
+    widening_halfway: bool,
 }
 
-impl Heights {
-    fn new(card: &Card) -> Heights {
+impl Rounded {
+    fn new(card: &Card, rows: &[i32]) -> Rounded {
         let (runoff, unit) = (Runoff::new(card), whole(1000 * card.unit));
-        let mut heights = Heights::default();
-        for station in stations(card) {
+        let in_units = |height: Fraction| (height / unit).nearest(tie(card.unit));
+        let is_absolute = card.datum != Datum::Relative;
+        let mut rounded = Rounded::default();
+        for (station, row) in stations(card).into_iter().zip(rows.chunks_exact(ROW)) {
             let at = whole(station);
+            let widening = runoff.widening(at) / whole(card.unit);
+            rounded.widening_halfway |= is_halfway(widening, row[1]);
             let axis = runoff.axis(at);
-            for line in runoff.lines(at) {
-                let number = (line / unit).nearest();
-                let apart = (axis / unit).nearest() + ((line - axis) / unit).nearest();
-                let is_halfway = line / unit - whole(number) == fraction(1, 2);
-                heights.otherwise_apart |= number != apart;
-                heights.halfway[usize::from(number < 0)] |= is_halfway;
+            for (line, &number) in runoff.lines(at).into_iter().zip(&row[2..]) {
+                let is_below = usize::from(line < whole(0));
+                rounded.halfway[is_below] |= is_halfway(line / unit, number);
+                let is_otherwise = || number != in_units(axis) + in_units(line - axis);
+                rounded.otherwise_apart |= is_absolute && is_otherwise();
             }
         }
-        heights
+        rounded
     }
+}
+
+/// Half a unit lies between an exact number of units and the rounded number.
+fn is_halfway(exact: Fraction, number: i32) -> bool {
+    let between = exact - whole(number);
+    between == fraction(1, 2) || between == fraction(-1, 2)
 }
 
 impl<'a> Seen<'a> {
     pub fn new(case: &'a CardCase) -> Seen<'a> {
         let card = Card::new(&case.card);
         let rows = ROW * case.due.count.numbers()[0] as usize;
-        let is_short = (1..=ROW * FEW_ROWS).contains(&rows) && card.datum != Datum::Relative;
+        let is_short = (1..=ROW * FEW_ROWS).contains(&rows);
+        let rows = &case.due.table.numbers()[..rows];
         Seen {
             numbers: &case.card,
             card,
             reply: case.due.reply,
             table: case.due.table.numbers().len(),
-            rows: &case.due.table.numbers()[..rows],
-            heights: if is_short {
-                Heights::new(&card)
+            rows,
+            rounded: if is_short {
+                Rounded::new(&card, rows)
             } else {
-                Heights::default()
+                Rounded::default()
             },
         }
     }
@@ -116,6 +133,21 @@ impl<'a> Seen<'a> {
         rows.any(|row| row[2..].iter().any(|&height| is_so(height)))
     }
 
+    /// Some height stands halfway above nought, in that unit.
+    fn is_halfway_above(&self, unit: u32) -> bool {
+        self.card.unit == unit && self.rounded.halfway[0]
+    }
+
+    /// Some height stands halfway below nought, in that unit.
+    fn is_halfway_below(&self, unit: u32) -> bool {
+        self.card.unit == unit && self.rounded.halfway[1]
+    }
+
+    /// Some widening stands halfway, in that unit.
+    fn is_widened_halfway(&self, unit: u32) -> bool {
+        self.card.unit == unit && self.rounded.widening_halfway
+    }
+
     /// One of the eight, below 0, is what refuses the card.
     fn is_below_0(&self, place: usize, reason: u32) -> bool {
         self.reply == reason && self.numbers[place] < 0
@@ -126,7 +158,7 @@ impl<'a> Seen<'a> {
 type IsOfSort = fn(&Seen) -> bool;
 
 /// Sorts of cards; a card can be of more than one.
-pub const SORTS: [(&str, IsOfSort); 48] = [
+pub const SORTS: [(&str, IsOfSort); 56] = [
     ("relative", |card| {
         card.is_relative() && card.numbers[HEIGHT..] == [0, 0]
     }),
@@ -207,10 +239,34 @@ pub const SORTS: [(&str, IsOfSort); 48] = [
         card.has_heights() && card.any_height(|n| n < 0) && card.any_height(|n| n > 0)
     }),
     ("otherwise, were parts rounded", |card| {
-        card.heights.otherwise_apart
+        card.rounded.otherwise_apart
     }),
-    ("halfway above nought", |card| card.heights.halfway[0]),
-    ("halfway below nought", |card| card.heights.halfway[1]),
+    ("relative, halfway in mm above 0", |card| {
+        card.is_relative() && card.is_halfway_above(MM)
+    }),
+    ("relative, halfway in mm below 0", |card| {
+        card.is_relative() && card.is_halfway_below(MM)
+    }),
+    ("relative, halfway in cm above 0", |card| {
+        card.is_relative() && card.is_halfway_above(CM)
+    }),
+    ("relative, halfway in cm below 0", |card| {
+        card.is_relative() && card.is_halfway_below(CM)
+    }),
+    ("absolute, halfway in mm above 0", |card| {
+        card.has_heights() && card.is_halfway_above(MM)
+    }),
+    ("absolute, halfway in mm below 0", |card| {
+        card.has_heights() && card.is_halfway_below(MM)
+    }),
+    ("absolute, halfway in cm above 0", |card| {
+        card.has_heights() && card.is_halfway_above(CM)
+    }),
+    ("absolute, halfway in cm below 0", |card| {
+        card.has_heights() && card.is_halfway_below(CM)
+    }),
+    ("widening halfway in mm", |card| card.is_widened_halfway(MM)),
+    ("widening halfway in cm", |card| card.is_widened_halfway(CM)),
     ("34 by one below", |card| {
         card.reply == 34 && card.height() == LEAST_HEIGHT - 1
     }),
@@ -265,6 +321,8 @@ mod tests {
 
     const RAMP: [i32; 8] = [5, 1, 30, 30_000, 60, 600, 20_000, 1];
     const FLAT: [i32; 8] = [3, 1, 700, 120_000, 40, 400, 20_000, 10];
+    /// Every number is a whole number of mm.
+    const BEND: [i32; 8] = [2, 1, 200, 80_000, 60, 1200, 20_000, 1];
 
     /// The sorts of the card, one after another.
     fn sorts(card: Numbers, table_length: usize) -> String {
@@ -277,27 +335,52 @@ mod tests {
 
     #[test]
     fn sorts_of_relative_cards() {
-        assert_eq!(sorts(relative(RAMP), 21), "relative");
+        assert_eq!(sorts(relative(BEND), 35), "relative");
         let beside = "relative, a height beside it; relative, 34's height beside it; \
                       relative, 35's grade beside it";
-        assert_eq!(sorts(marked(RAMP, 0, 9_000_001, -81), 21), beside);
+        assert_eq!(sorts(marked(BEND, 0, 9_000_001, -81), 35), beside);
         assert_eq!(sorts(relative(RAMP), 20), "");
+    }
+
+    #[test]
+    fn sorts_of_relative_cards_by_halfway() {
+        // The axis at 172.5 mm, and at last the inner brow at -67.5.
+        let in_mm = "relative; relative, halfway in mm above 0; relative, halfway in mm below 0";
+        assert_eq!(sorts(relative(RAMP), 21), in_mm);
+        // The same axis, and at 67500 the inner brow at -37.5 mm and the widening at 2437.5.
+        let widened = [5, 1, 60, 90_000, 34, 3250, 13_500, 1];
+        let and_widening = format!("{in_mm}; widening halfway in mm");
+        assert_eq!(sorts(relative(widened), 56), and_widening);
+        // The outer edge at 23.5 cm, and nothing halfway below nought.
+        let above = "relative; relative, halfway in cm above 0";
+        assert_eq!(sorts(relative(FLAT), 49), above);
+        // The axis at 22.5 cm, and at last the inner brow at -22.5.
+        let in_cm = format!("{above}; relative, halfway in cm below 0");
+        let steep = [1, 1, 150, 60_000, 60, 1250, 12_000, 10];
+        assert_eq!(sorts(relative(steep), 42), in_cm);
+        // The same axis, and at last the inner brow at -5.5 cm and the widening at 312.5.
+        let widened = [1, 1, 150, 75_000, 32, 3125, 20_000, 10];
+        let and_widening = format!("{in_cm}; widening halfway in cm");
+        assert_eq!(sorts(relative(widened), 35), and_widening);
     }
 
     #[test]
     fn sorts_of_absolute_cards() {
         let ramp = "absolute, unit 1; absolute, even; mark 1; grade below 0; \
-                    a grade, and a last step cut; halfway above nought";
+                    a grade, and a last step cut; absolute, halfway in mm above 0";
         assert_eq!(sorts(absolute(RAMP, 250_000, -35), 21), ramp);
+        let low = "absolute, unit 1; absolute, even; mark 1; height -100000; height below 0; \
+                   height without a grade; absolute, halfway in mm below 0";
+        assert_eq!(sorts(absolute(RAMP, -100_000, 0), 21), low);
         let mut steps = absolute(RAMP, 250_000, 35);
         steps[6] = 1105;
         assert!(sorts(steps, 203).contains("otherwise, were parts rounded"));
         let flat = "absolute, unit 10; absolute, two-stage; mark below 0; height -100000; \
-                    height below 0; height without a grade; halfway below nought";
+                    height below 0; height without a grade; absolute, halfway in cm below 0";
         assert_eq!(sorts(marked(FLAT, -1, -100_000, 0), 49), flat);
         let nought = "absolute, unit 10; absolute, two-stage; mark above 1; \
                       mark of which 8 bits are 0; height 0 and grade 0; \
-                      heights above and below nought; halfway above nought";
+                      heights above and below nought; absolute, halfway in cm above 0";
         assert_eq!(sorts(marked(FLAT, 256, 0, 0), 49), nought);
         let mut long = absolute([1, 1, 2000, 300_000, 20, 0, 20_000, 1], 9_000_000, 80);
         let limits = "absolute, unit 1; absolute, two-stage; mark 1; height 9000000; grade 80; \

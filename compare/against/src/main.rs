@@ -35,6 +35,8 @@ mod wrong_cards;
 #[cfg(test)]
 mod wrong_days;
 #[cfg(test)]
+mod wrong_halves;
+#[cfg(test)]
 mod wrong_listed_heights;
 #[cfg(test)]
 mod wrong_lists;

@@ -6,15 +6,16 @@ use crate::cards::{Numbers, GRADE, HEIGHT, LENGTH, MARK, STEP, UNIT};
 use crate::found::all_are_found;
 use crate::work::card;
 use crate::DEFAULT;
-use paper::fraction::{fraction, whole, Fraction};
+use paper::fraction::{fraction, whole, Fraction, Tie};
+use paper::rows::tie;
 use paper::section::Runoff;
 use paper::{check_card, fill_table, stations, Card};
 
 /// A wrong program must be found among so many of the first cards of the default run.
 const FIRST_CARDS: u64 = DEFAULT.cards / 100;
-const ROW: usize = 7;
+pub const ROW: usize = 7;
 
-fn right(loan: &mut Loan) -> [u32; 2] {
+pub fn right(loan: &mut Loan) -> [u32; 2] {
     right_for(loan.card, loan)
 }
 
@@ -72,20 +73,19 @@ impl Height {
         whole(1000 * self.card[UNIT])
     }
 
-    /// Rounded to units, halfway to the lower number.
+    /// Rounded to units, halfway as it is due in this unit.
     fn rounded(&self, micrometres: Fraction) -> i32 {
-        (micrometres / self.unit()).nearest()
+        self.tied(micrometres, tie(self.card[UNIT].cast_unsigned()))
     }
 
-    /// Rounded to units, halfway to the higher number.
-    fn rounded_up(&self, micrometres: Fraction) -> i32 {
-        -(-micrometres / self.unit()).nearest()
+    /// Rounded to units, halfway as the tie says.
+    fn tied(&self, micrometres: Fraction, tie: Tie) -> i32 {
+        (micrometres / self.unit()).nearest(tie)
     }
 
     /// The next whole number of units that is not above.
     fn down(&self, micrometres: Fraction) -> i32 {
-        let above = -micrometres / self.unit() - fraction(1, 2);
-        -1 - above.nearest()
+        (micrometres / self.unit() - fraction(1, 2)).nearest(Tie::Higher)
     }
 
     /// The number that stands in the table.
@@ -125,7 +125,7 @@ fn reckoned(loan: &mut Loan, reckon: Reckon) -> [u32; 2] {
 }
 
 /// Wrong as to what is rounded.
-const WRONG_ROUNDING: [(&str, Call); 11] = [
+const WRONG_ROUNDING: [(&str, Call); 9] = [
     ("the axis rounded apart from the distance", |loan| {
         reckoned(loan, |h| h.rounded(h.axis()) + h.rounded(h.distance))
     }),
@@ -146,34 +146,22 @@ const WRONG_ROUNDING: [(&str, Call); 11] = [
     }),
     ("to millimetres first", |loan| {
         reckoned(loan, |h| {
-            let mm = ((h.axis() + h.distance) / whole(1000)).nearest();
+            let mm = ((h.axis() + h.distance) / whole(1000)).nearest(tie(1));
             h.rounded(whole(1000) * whole(mm))
         })
     }),
     ("the climb to millimetres first", |loan| {
         reckoned(loan, |h| {
-            let mm = (h.climb() / whole(1000)).nearest();
+            let mm = (h.climb() / whole(1000)).nearest(tie(1));
             h.rounded(h.benchmark() + whole(1000) * whole(mm) + h.distance)
         })
     }),
-    ("halfway to the higher number", |loan| {
-        reckoned(loan, |h| h.rounded_up(h.axis() + h.distance))
-    }),
-    ("halfway toward nought", |loan| {
-        reckoned(loan, |h| {
-            let sum = h.axis() + h.distance;
-            match sum < whole(0) {
-                true => h.rounded_up(sum),
-                false => h.rounded(sum),
-            }
-        })
-    }),
-    ("halfway below the axis toward it", |loan| {
+    ("halfway toward the axis", |loan| {
         reckoned(loan, |h| {
             let sum = h.axis() + h.distance;
             match h.distance < whole(0) {
-                true => h.rounded_up(sum),
-                false => h.rounded(sum),
+                true => h.tied(sum, Tie::Higher),
+                false => h.tied(sum, Tie::Lower),
             }
         })
     }),
@@ -620,7 +608,7 @@ const WRONG_READING: [(&str, Call); 13] = [
 ];
 
 /// The first card for which the program differs from the paper.
-fn first_difference(program: Call) -> Option<u64> {
+pub fn first_difference(program: Call) -> Option<u64> {
     (0..FIRST_CARDS).find(|&index| {
         let (_, case) = card(DEFAULT.seed, index, program);
         !case.due.unlike(&case.came).is_empty()

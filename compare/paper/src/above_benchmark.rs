@@ -23,16 +23,16 @@ fn row_at(card: Numbers, station: i32) -> [i32; 7] {
 }
 
 /// Height 250000 and grade −35: the axis falls by 35 mm a metre, so it stands at 250000, 249300 and 248950.
-/// s = 3 × d / 1000 − 30, so −30, 30 and 60; the widening is 0, 400 and 600.
+/// s = 3 × d / 1000 − 30, so −30, 30 and 60; the widening is 0, 400 and 600. In mm halfway goes to the higher number.
 #[test]
 fn absolute_ramp() {
     let due = [
         // Outer edge 250000 − 2250 × 0.03 = 249932.5, outer brow 249932.5 − 1750 × 0.03 = 249880; inner edge
         // 250000 − 2250 × 0.03 = 249932.5, inner brow 249932.5 − 1750 × 0.06 = 249827.5.
-        [0, 0, 249_827, 249_932, 250_000, 249_932, 249_880],
+        [0, 0, 249_828, 249_933, 250_000, 249_933, 249_880],
         // Outer edge 249300 + 67.5 = 249367.5, outer brow 249367.5 + 52.5 = 249420; inner edge
         // 249300 − 2650 × 0.03 = 249220.5, inner brow 249220.5 − 1350 × 0.06 = 249139.5.
-        [20_000, 400, 249_139, 249_220, 249_300, 249_367, 249_420],
+        [20_000, 400, 249_140, 249_221, 249_300, 249_368, 249_420],
         // Outer edge 248950 + 2250 × 0.06 = 249085, outer brow 249085 + 1750 × 0.06 = 249190; inner edge
         // 248950 − 2850 × 0.06 = 248779, inner brow 248779 − 1150 × 0.06 = 248710.
         [30_000, 600, 248_710, 248_779, 248_950, 249_085, 249_190],
@@ -118,12 +118,15 @@ fn tables_that_differ_by_the_axis_alone() {
     }
 }
 
-/// RAMP's axis, 172.5, is no whole number of units, so its rows are rounded from other sums.
+/// RAMP's axis, 172.5, is no whole number of units, so its rows are rounded from other sums: each line less 172.5.
 #[test]
 fn ramp_with_height_0_and_grade_0() {
     let due = [
-        [0, 0, -173, -68, 0, -68, -120],
-        [20_000, 400, -161, -80, 0, 67, 120],
+        // 0 − 172.5 = −172.5; 105 − 172.5 = −67.5; 105 − 172.5 = −67.5; 52.5 − 172.5 = −120.
+        [0, 0, -172, -67, 0, -67, -120],
+        // 12 − 172.5 = −160.5; 93 − 172.5 = −79.5; 240 − 172.5 = 67.5; 292.5 − 172.5 = 120.
+        [20_000, 400, -160, -79, 0, 68, 120],
+        // −67.5 − 172.5 = −240; 1.5 − 172.5 = −171; 307.5 − 172.5 = 135; 412.5 − 172.5 = 240.
         [30_000, 600, -240, -171, 0, 135, 240],
     ];
     assert_eq!(rows(&absolute(RAMP, 0, 0)), due);

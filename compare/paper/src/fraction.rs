@@ -9,6 +9,13 @@ pub struct Fraction {
     bottom: i128,
 }
 
+/// Where a value goes that lies halfway between two whole numbers, above nought and below it.
+#[derive(Clone, Copy, Debug, PartialEq, Eq)]
+pub enum Tie {
+    Lower,
+    Higher,
+}
+
 /// `top` over `bottom`; the bottom is above nought.
 pub fn fraction(top: i128, bottom: i128) -> Fraction {
     assert!(bottom > 0, "the bottom of a fraction is above nought");
@@ -81,16 +88,16 @@ impl Ord for Fraction {
 }
 
 impl Fraction {
-    /// The nearest whole number; halfway goes to the lower one, also below nought.
-    pub fn nearest(self) -> i32 {
+    /// The nearest whole number; of two that are equally near, the one that the tie says.
+    pub fn nearest(self, tie: Tie) -> i32 {
         let lower = self.top.div_euclid(self.bottom);
         let rest = self.top.rem_euclid(self.bottom);
-        let nearest = if 2 * rest > self.bottom {
-            lower + 1
-        } else {
-            lower
+        let goes_up = match (2 * rest).cmp(&self.bottom) {
+            Ordering::Less => false,
+            Ordering::Equal => tie == Tie::Higher,
+            Ordering::Greater => true,
         };
-        i32::try_from(nearest).expect("a row's number fits 32 bits")
+        i32::try_from(lower + i128::from(goes_up)).expect("a row's number fits 32 bits")
     }
 
     /// The same fraction with the least bottom, for comparing such as have great ones.
@@ -106,25 +113,46 @@ impl Fraction {
 
 #[cfg(test)]
 mod tests {
-    use super::fraction;
+    use super::{fraction, Tie};
 
-    #[test]
-    fn halfway_goes_to_the_lower_number() {
-        assert_eq!(fraction(45, 2).nearest(), 22);
-        assert_eq!(fraction(46, 2).nearest(), 23);
-        assert_eq!(fraction(1, 2).nearest(), 0);
-        assert_eq!(fraction(-1, 2).nearest(), -1);
-        assert_eq!(fraction(-45, 2).nearest(), -23);
+    /// The top and the bottom of fractions, and the number that is due for each.
+    fn nearest_are(tie: Tie, dues: &[(i128, i128, i32)]) {
+        for &(top, bottom, due) in dues {
+            assert_eq!(fraction(top, bottom).nearest(tie), due, "{top} / {bottom}");
+        }
     }
 
     #[test]
+    fn halfway_goes_to_the_lower_number() {
+        nearest_are(Tie::Lower, &[(45, 2, 22), (1, 2, 0), (345, 2, 172)]);
+        nearest_are(Tie::Lower, &[(-45, 2, -23), (-1, 2, -1), (-135, 2, -68)]);
+        nearest_are(Tie::Lower, &[(750, 500, 1), (-750, 500, -2)]);
+    }
+
+    #[test]
+    fn halfway_goes_to_the_higher_number() {
+        nearest_are(Tie::Higher, &[(45, 2, 23), (1, 2, 1), (345, 2, 173)]);
+        nearest_are(Tie::Higher, &[(-45, 2, -22), (-1, 2, 0), (-135, 2, -67)]);
+        nearest_are(Tie::Higher, &[(750, 500, 2), (-750, 500, -1)]);
+    }
+
+    /// By a hundredth, and by the least that an odd bottom allows.
+    #[test]
     fn beside_halfway_goes_to_the_nearest() {
-        assert_eq!(fraction(2251, 100).nearest(), 23);
-        assert_eq!(fraction(2249, 100).nearest(), 22);
-        assert_eq!(fraction(-2251, 100).nearest(), -23);
-        assert_eq!(fraction(-2249, 100).nearest(), -22);
-        assert_eq!(fraction(-1, 3).nearest(), 0);
-        assert_eq!(fraction(-2, 3).nearest(), -1);
+        for tie in [Tie::Lower, Tie::Higher] {
+            nearest_are(tie, &[(2251, 100, 23), (2249, 100, 22)]);
+            nearest_are(tie, &[(-2251, 100, -23), (-2249, 100, -22)]);
+            nearest_are(tie, &[(1, 3, 0), (2, 3, 1), (-1, 3, 0), (-2, 3, -1)]);
+            nearest_are(tie, &[(500, 1001, 0), (501, 1001, 1)]);
+            nearest_are(tie, &[(-500, 1001, 0), (-501, 1001, -1)]);
+        }
+    }
+
+    #[test]
+    fn whole_numbers_stay() {
+        for tie in [Tie::Lower, Tie::Higher] {
+            nearest_are(tie, &[(46, 2, 23), (0, 2, 0), (-46, 2, -23)]);
+        }
     }
 
     #[test]

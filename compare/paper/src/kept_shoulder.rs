@@ -34,13 +34,13 @@ fn category_3_with_a_widening_of_1200() {
 }
 
 /// At 70000: w 1050, s 50. Inner edge 170 − 4550 × 0.05 = −57.5; brow −57.5 − 1500 × 0.05 = −132.5:
-/// both halfway, both to the lower number.
+/// both halfway, and in mm both to the higher number.
 #[test]
 fn halfway_beside_the_kept_shoulder() {
     let card = [2, 1, 200, 80_000, 60, 1200, 10_000, 1];
     assert_eq!(
         row_at(card, 70_000),
-        [70_000, 1050, -133, -58, 170, 345, 470]
+        [70_000, 1050, -132, -57, 170, 345, 470]
     );
 }
 
@@ -67,23 +67,24 @@ fn profile_3_with_a_widening_above_its_shoulder() {
 
 /// Axis 1750 × 0.06 + 2250 × 0.03 = 172.5; w = 7 × d / 60; s = 3 × d / 1000 − 30.
 /// Outer edge 172.5 + 2.25 × s, outer brow 172.5 + 4 × s. A shoulder of 1000 falls by 60: its slope is 60 throughout.
+/// In mm halfway goes to the higher number: the axis to 173.
 #[test]
 fn profile_5_with_a_widening_above_its_shoulder() {
     let due = [
-        // Inner edge 172.5 − 2250 × 0.03 = 105; shoulder 1750: 105 − 105 = 0.
-        [0, 0, 0, 105, 172, 105, 52],
-        // w 583 1/3: inner edge 105 − 17.5 = 87.5; shoulder 1166 2/3: 87.5 − 70 = 17.5.
-        [5000, 583, 17, 87, 172, 139, 112],
-        // w 1166 2/3: inner edge 105 − 35 = 70; c − w 583 1/3 is below 1000: 70 − 60 = 10.
-        [10_000, 1167, 10, 70, 172, 172, 172],
-        // w 1750: inner edge 105 − 52.5 = 52.5; c − w is nought: 52.5 − 60 = −7.5.
-        [15_000, 1750, -8, 52, 172, 206, 232],
-        // w 2333 1/3: inner edge 105 − 70 = 35; c − w is below nought: 35 − 60 = −25.
-        [20_000, 2333, -25, 35, 172, 240, 292],
-        // w 2916 2/3: inner edge 172.5 − 5166 2/3 × 0.045 = −60; brow −60 − 60 = −120.
-        [25_000, 2917, -120, -60, 172, 274, 352],
-        // w 3500: inner edge 172.5 − 5750 × 0.06 = −172.5; brow −172.5 − 60 = −232.5.
-        [30_000, 3500, -233, -173, 172, 307, 412],
+        // Inner edge 172.5 − 2250 × 0.03 = 105; shoulder 1750: 105 − 105 = 0. s −30: 105 and 52.5.
+        [0, 0, 0, 105, 173, 105, 53],
+        // w 583 1/3: inner edge 105 − 17.5 = 87.5; shoulder 1166 2/3: 87.5 − 70 = 17.5. s −15: 138.75 and 112.5.
+        [5000, 583, 18, 88, 173, 139, 113],
+        // w 1166 2/3: inner edge 105 − 35 = 70; c − w 583 1/3 is below 1000: 70 − 60 = 10. s 0: both 172.5.
+        [10_000, 1167, 10, 70, 173, 173, 173],
+        // w 1750: inner edge 105 − 52.5 = 52.5; c − w is nought: 52.5 − 60 = −7.5. s 15: 206.25 and 232.5.
+        [15_000, 1750, -7, 53, 173, 206, 233],
+        // w 2333 1/3: inner edge 105 − 70 = 35; c − w is below nought: 35 − 60 = −25. s 30: 240 and 292.5.
+        [20_000, 2333, -25, 35, 173, 240, 293],
+        // w 2916 2/3: inner edge 172.5 − 5166 2/3 × 0.045 = −60; brow −60 − 60 = −120. s 45: 273.75 and 352.5.
+        [25_000, 2917, -120, -60, 173, 274, 353],
+        // w 3500: inner edge 172.5 − 5750 × 0.06 = −172.5; brow −172.5 − 60 = −232.5. s 60: 307.5 and 412.5.
+        [30_000, 3500, -232, -172, 173, 308, 413],
     ];
     assert_eq!(rows(&relative(WIDE_RAMP)), due);
 }

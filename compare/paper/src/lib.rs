@@ -1,7 +1,8 @@
-//! The paper "Superelevation runoff about the axis, categories II to V" (document 01), rule by rule,
-//! with what document 02 changes and adds: Slip 1, "The bank is widened, the shoulder is kept";
+//! Documents 01 and 02 (Slips 1 to 6): the paper "Superelevation runoff about the axis, categories II to V", rule by
+//! rule, with what document 02 changes and adds: Slip 1, "The bank is widened, the shoulder is kept";
 //! Slip 2, "A whole day's cards in one call"; Slip 3, "Stop looking once found";
-//! Slip 4, "Write the book as well as read it"; Slip 5, "Heights above the benchmark".
+//! Slip 4, "Write the book as well as read it"; Slip 5, "Heights above the benchmark";
+//! Slip 6, "Halfway goes up in millimetres".
 //!
 //! Written to be read beside the papers: their words, their order, exact fractions throughout.
 #![forbid(unsafe_code)]
@@ -24,6 +25,8 @@ pub use writer::{write_book, WriterReply};
 mod above_benchmark;
 #[cfg(test)]
 mod both_bodies;
+#[cfg(test)]
+mod halfway;
 #[cfg(test)]
 mod kept_shoulder;
 #[cfg(test)]

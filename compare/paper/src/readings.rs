@@ -1,4 +1,4 @@
-//! The paper's own figures: the RAMP rows and every one of the "Readings at the edges".
+//! The papers' own figures: the RAMP rows and every one of the "Readings at the edges".
 
 use crate::card::{least_length, relative};
 use crate::fraction::{fraction, whole, Fraction};
@@ -7,12 +7,12 @@ use crate::{check_card, fill_table, read_book, rows, BookReply, Card, TableReply
 
 pub const RAMP_BOOK: &[u8] = b"1\nRAMP 3\n5 1 30 30000 60 600 20000 1\n";
 pub const RAMP: [i32; 8] = [5, 1, 30, 30000, 60, 600, 20000, 1];
-/// The three rows that the paper prints for RAMP.
+/// The three rows that document 02 prints for RAMP (Slip 6).
 #[rustfmt::skip]
 pub const RAMP_ROWS: [i32; 21] = [
-    0, 0, 0, 105, 172, 105, 52,
-    20000, 400, 12, 93, 172, 240, 292,
-    30000, 600, -68, 1, 172, 307, 412,
+    0, 0, 0, 105, 173, 105, 53,
+    20000, 400, 12, 93, 173, 240, 293,
+    30000, 600, -67, 2, 173, 308, 413,
 ];
 /// Profile 3, R 700, L 120000, v 40, W 400, unit 10.
 pub const FLAT: [i32; 8] = [3, 1, 700, 120_000, 40, 400, 20000, 10];

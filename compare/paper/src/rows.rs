@@ -1,7 +1,7 @@
 //! The rows of an accepted card, and the lent table they go into.
 
 use crate::card::{check_card, Card, Numbers};
-use crate::fraction::{whole, Fraction};
+use crate::fraction::{whole, Fraction, Tie};
 use crate::section::Runoff;
 
 /// Numbers in a row.
@@ -24,13 +24,23 @@ pub fn stations(card: &Card) -> Vec<u32> {
     stations
 }
 
-/// Station; widening; inner brow; inner edge; axis; outer edge; outer brow.
+/// Document 02, Slip 6: "in whole millimetres a halfway value goes to the higher number. In centimetres it still goes
+/// to the lower."
+pub fn tie(unit: u32) -> Tie {
+    match unit {
+        1 => Tie::Higher,
+        _ => Tie::Lower,
+    }
+}
+
+/// Station; widening; inner brow; inner edge; axis; outer edge; outer brow. The last six are counts of the unit, each
+/// rounded once.
 fn row(runoff: &Runoff, station: u32, unit: u32) -> [i32; ROW] {
-    let at = whole(station);
-    let height = |micrometres: Fraction| (micrometres / whole(1000 * unit)).nearest();
+    let (at, tie) = (whole(station), tie(unit));
+    let height = |micrometres: Fraction| (micrometres / whole(1000 * unit)).nearest(tie);
     let mut row = [0; ROW];
     row[0] = i32::try_from(station).expect("a station fits 32 bits");
-    row[1] = (runoff.widening(at) / whole(unit)).nearest();
+    row[1] = (runoff.widening(at) / whole(unit)).nearest(tie);
     row[2..].copy_from_slice(&runoff.lines(at).map(height));
     row
 }

@@ -73,9 +73,9 @@ impl Fraction {
     }
 }
 
-/// Nearest whole number; halfway goes to the lower, also below nought.
-fn round(top: i64, bottom: i64) -> i32 {
-    (2 * top + bottom - 1).div_euclid(2 * bottom) as i32
+/// Nearest whole number; with a tie of 1 halfway goes to the lower, with 0 to the higher, also below nought.
+fn round(top: i64, bottom: i64, tie: i64) -> i32 {
+    (2 * top + bottom - tie).div_euclid(2 * bottom) as i32
 }
 
 /// The first of the card's own reasons that applies, or 0.
@@ -142,6 +142,8 @@ struct Runoff {
     full_widening: i64,
     step: i64,
     unit: i64,
+    /// 0 in millimetres, where halfway goes to the higher number, and 1 in centimetres.
+    tie: i64,
     axis: Axis,
     stages: Stages,
 }
@@ -175,6 +177,7 @@ impl Runoff {
             full_widening,
             step,
             unit,
+            tie: i64::from(unit != 1),
             axis,
             stages,
         })
@@ -225,15 +228,15 @@ impl Runoff {
         let inner_edge = axis * bottom - (h * self.length + widening) * inner.top;
         let shoulder = (c * self.length - widening).max(m * self.length);
         let inner_brow = inner_edge - shoulder * side.top;
-        let unit = 1000 * self.unit;
+        let (unit, tie) = (1000 * self.unit, self.tie);
         [
             station as i32,
-            round(widening, self.length * self.unit),
-            units + round(inner_brow, bottom * unit),
-            units + round(inner_edge, bottom * unit),
-            units + round(axis, unit),
-            units + round(outer_edge, outer.bottom * unit),
-            units + round(outer_brow, outer.bottom * unit),
+            round(widening, self.length * self.unit, tie),
+            units + round(inner_brow, bottom * unit, tie),
+            units + round(inner_edge, bottom * unit, tie),
+            units + round(axis, unit, tie),
+            units + round(outer_edge, outer.bottom * unit, tie),
+            units + round(outer_brow, outer.bottom * unit, tie),
         ]
     }
 
@@ -279,16 +282,16 @@ pub fn fill_table(card: &Numbers, table: &mut [i32]) -> (u32, u32) {
 mod tests {
     use super::fill_table;
     use crate::cards::{absolute_cards, relative_cards};
-    use paper::card::{absolute, marked, relative};
+    use paper::card::{absolute, marked, relative, Numbers};
 
     #[test]
     fn ramp() {
         let mut table = [5; 22];
         let card = relative([5, 1, 30, 30000, 60, 600, 20000, 1]);
         assert_eq!(fill_table(&card, &mut table), (0, 3));
-        assert_eq!(table[..7], [0, 0, 0, 105, 172, 105, 52]);
-        assert_eq!(table[7..14], [20000, 400, 12, 93, 172, 240, 292]);
-        assert_eq!(table[14..], [30000, 600, -68, 1, 172, 307, 412, 5]);
+        assert_eq!(table[..7], [0, 0, 0, 105, 173, 105, 53]);
+        assert_eq!(table[7..14], [20000, 400, 12, 93, 173, 240, 293]);
+        assert_eq!(table[14..], [30000, 600, -67, 2, 173, 308, 413, 5]);
     }
 
     #[test]
@@ -318,8 +321,35 @@ mod tests {
         let mut table = [0; 49];
         let card = relative([5, 1, 30, 30000, 60, 3500, 5000, 1]);
         assert_eq!(fill_table(&card, &mut table), (0, 7));
-        assert_eq!(table[7..14], [5000, 583, 17, 87, 172, 139, 112]);
-        assert_eq!(table[42..], [30000, 3500, -233, -173, 172, 307, 412]);
+        assert_eq!(table[7..14], [5000, 583, 18, 88, 173, 139, 113]);
+        assert_eq!(table[42..], [30000, 3500, -232, -172, 173, 308, 413]);
+    }
+
+    /// The row of an accepted card at that place, from 0.
+    fn row(card: &Numbers, place: usize) -> [i32; 7] {
+        let mut table = [0; 2107];
+        assert_eq!(fill_table(card, &mut table).0, 0);
+        table[7 * place..][..7].try_into().expect("seven numbers")
+    }
+
+    /// 2437.5, −37.5, 22.5, 172.5, 244.5 and 300.5; then the axis at −67.5 and the lines −210, −150, 72 and 128 from it.
+    #[test]
+    fn halfway_in_millimetres() {
+        let eight = [5, 1, 60, 90_000, 34, 3250, 13_500, 1];
+        let due = [67_500, 2438, -37, 23, 173, 245, 301];
+        assert_eq!(row(&relative(eight), 5), due);
+        let due = [67_500, 2438, -277, -217, -67, 5, 61];
+        assert_eq!(row(&absolute(eight, 0, -1), 5), due);
+    }
+
+    /// 312.5, −5.5, 0.5, 22.5, 34.5 and 46.5; then the axis at −7.5 and the lines −28, −22, 12 and 24 from it.
+    #[test]
+    fn halfway_in_centimetres() {
+        let eight = [1, 1, 150, 75_000, 32, 3125, 20_000, 10];
+        let due = [75_000, 312, -6, 0, 22, 34, 46];
+        assert_eq!(row(&relative(eight), 4), due);
+        let due = [75_000, 312, -36, -30, -8, 4, 16];
+        assert_eq!(row(&absolute(eight, 0, -1), 4), due);
     }
 
     #[test]
@@ -345,8 +375,8 @@ mod tests {
         let mut table = [5; 22];
         let card = absolute([5, 1, 30, 30000, 60, 600, 20000, 1], 250_000, -35);
         assert_eq!(fill_table(&card, &mut table), (0, 3));
-        let first = [0, 0, 249_827, 249_932, 250_000, 249_932, 249_880];
-        let second = [20000, 400, 249_139, 249_220, 249_300, 249_367, 249_420];
+        let first = [0, 0, 249_828, 249_933, 250_000, 249_933, 249_880];
+        let second = [20000, 400, 249_140, 249_221, 249_300, 249_368, 249_420];
         let last = [30000, 600, 248_710, 248_779, 248_950, 249_085, 249_190];
         assert_eq!(table[..21], *[first, second, last].as_flattened());
         assert_eq!(table[21], 5);

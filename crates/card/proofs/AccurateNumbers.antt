@@ -5,7 +5,7 @@ use Prim.Native.Nat.{_*_}
 use native.Mathlib.Omega.{arith}
 use Rattle.exact.specs.Rounding.{lower, higher, rounded}
 use Rattle.exact.proofs.Rounded.{rounding-laws}
-use Rattle.card.specs.Rows.{tie, AccurateTheorem, HalfwayReadings}
+use Rattle.card.specs.Rows.{tie, AccurateTheorem, HalfwayByUnit}
 
 pub accurate : AccurateTheorem
 accurate unit some x proper =
@@ -16,9 +16,9 @@ accurate unit some x proper =
       half = rounding-laws (tie unit) (1000 * unit) (omega arith) .half x proper;
     }
 
-pub halfway-readings : HalfwayReadings
+pub halfway-by-unit : HalfwayByUnit
 unfolding rounded
-halfway-readings =
+halfway-by-unit =
     record {
       mm = refl;
       mm-less = refl;

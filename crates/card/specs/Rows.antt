@@ -46,9 +46,10 @@ pub record Accurate (unit : ℕ) (x : Exact) (n : ℤ) : Type 0 where
 abbrev pub AccurateTheorem : Type 0
 AccurateTheorem = (unit : ℕ) → 0 < unit → (x : Exact) → 0 < x .den → Accurate unit x (inUnits unit x)
 
--- halfway above nought and below, in mm and in cm, and a micrometre to either side of it: 172.5 and −67.5 mm, 22.5 and −22.5 cm
+-- halfway above nought and below, in mm and in cm, and a micrometre beside it, where the other number is nearer: 172.5 and −67.5 mm,
+-- 22.5 and −22.5 cm
 -- THEOREM (proofs/AccurateNumbers.antt)
-pub record HalfwayReadings : Type 0 where
+pub record HalfwayByUnit : Type 0 where
   pub mm : inUnits 1 (ratio 172500 0 1) ≡ pos 173
   pub mm-less : inUnits 1 (ratio 172499 0 1) ≡ pos 172
   pub mm-below : inUnits 1 (ratio 0 67500 1) ≡ negℤ (pos 67)

@@ -16,12 +16,14 @@ halves =
     record {
       millimetres-accepted = refl;
       centimetres-accepted = refl;
+      level-accepted = refl;
       above-accepted = refl;
       below-accepted = refl;
       above-cm-accepted = refl;
       below-cm-accepted = refl;
       millimetres = refl;
       centimetres = refl;
+      centimetres-level = refl;
       millimetres-above = refl;
       millimetres-below = refl;
       centimetres-above = refl;

@@ -63,12 +63,11 @@ extern "C" {
    counts of the card's unit, each rounded once from its exact fraction to the
    nearest. Halfway goes to the higher number where the unit is 1 mm and to the
    lower where it is 10 mm, also below nought: 67.5 mm to 68 and -67.5 mm to -67,
-   22.5 cm to 22 and -22.5 cm to -23. Heights count from the
-   inner brow at station 0, or from the benchmark where the card is absolute: the
-   sum of the axis and of a line's distance from it is what is rounded. The inner
-   shoulder, from the inner edge to the inner brow, is the greater of the least
-   shoulder and the shoulder less the widening: where the least is greater, the
-   bank is widened. */
+   22.5 cm to 22 and -22.5 cm to -23. Heights count from the inner brow at station
+   0, or from the benchmark where the card is absolute: the sum of the axis and of
+   a line's distance from it is what is rounded. The inner shoulder, from the inner
+   edge to the inner brow, is the greater of the least shoulder and the shoulder
+   less the widening: where the least is greater, the bank is widened. */
 #define PIPPINTERM_ROW_STATION 0
 #define PIPPINTERM_ROW_WIDENING 1
 #define PIPPINTERM_ROW_INNER_BROW 2

@@ -4,7 +4,7 @@
 
 use crate::card::{absolute, marked, relative};
 use crate::fraction::{fraction, Fraction};
-use crate::readings::{check, FLAT, RAMP, RAMP_ROWS};
+use crate::readings::{check, row_of, FLAT, RAMP, RAMP_ROWS};
 use crate::section::Runoff;
 use crate::{check_card, fill_day, fill_table, rows, Card, Numbers};
 
@@ -14,12 +14,6 @@ const LONGEST: [i32; 8] = [1, 1, 2000, 300_000, 20, 0, 20_000, 1];
 fn in_centimetres(mut eight: [i32; 8]) -> [i32; 8] {
     eight[7] = 10;
     eight
-}
-
-fn row_at(card: Numbers, station: i32) -> [i32; 7] {
-    let mut rows = rows(&card).into_iter();
-    rows.find(|row| row[0] == station)
-        .expect("a row at that station")
 }
 
 /// Height 250000 and grade −35: the axis falls by 35 mm a metre, so it stands at 250000, 249300 and 248950.
@@ -51,10 +45,10 @@ fn absolute_ramp() {
 fn halfway_in_centimetres() {
     // The axis stands at 123450 + 7 × 60 = 123870: outer edge 123945, outer brow 123995.
     let above = [60_000, 20, 12_370, 12_379, 12_387, 12_394, 12_399];
-    assert_eq!(row_at(absolute(FLAT, 123_450, 7), 60_000), above);
+    assert_eq!(row_of(absolute(FLAT, 123_450, 7), 60_000), above);
     // The axis stands at −100000 − 7 × 60 = −100420: outer edge −100345, outer brow −100295.
     let below = [60_000, 20, -10_059, -10_050, -10_042, -10_035, -10_030];
-    assert_eq!(row_at(absolute(FLAT, -100_000, -7), 60_000), below);
+    assert_eq!(row_of(absolute(FLAT, -100_000, -7), 60_000), below);
 }
 
 /// "The sum is rounded once." At 1105 the axis is 80 × 1.105 = 88.4, and s is 3 × 1105 / 3750 − 20 = −19.116.
@@ -64,10 +58,10 @@ fn the_sum_is_rounded_once() {
     card[6] = 1105;
     // Outer edge 88.4 − 71.685 = 16.715, of which 88 and −72 would make 16; outer brow 88.4 − 143.37 = −54.97;
     // inner edge 88.4 − 75 = 13.4; inner brow 13.4 − 150 = −136.6.
-    assert_eq!(row_at(card, 1105), [1105, 0, -137, 13, 88, 17, -55]);
+    assert_eq!(row_of(card, 1105), [1105, 0, -137, 13, 88, 17, -55]);
     card[9] = -100_000;
     let below = [1105, 0, -100_137, -99_987, -99_912, -99_983, -100_055];
-    assert_eq!(row_at(card, 1105), below);
+    assert_eq!(row_of(card, 1105), below);
 }
 
 /// At L s is 20: outer edge 75 above the axis, outer brow 150, inner edge 75 below it, inner brow 225 below. The axis has
@@ -82,9 +76,9 @@ fn limits_on_the_longest_clothoid() {
     ] {
         let card = absolute(LONGEST, height, grade);
         let last = [-225, -75, 0, 75, 150].map(|distance| axis + distance);
-        assert_eq!(row_at(card, 300_000)[2..], last, "{height} {grade}");
+        assert_eq!(row_of(card, 300_000)[2..], last, "{height} {grade}");
         let first = [-225, -75, 0, -75, -150].map(|distance| height + distance);
-        assert_eq!(row_at(card, 0)[2..], first, "{height} {grade}");
+        assert_eq!(row_of(card, 0)[2..], first, "{height} {grade}");
     }
 }
 
@@ -99,7 +93,7 @@ fn limits_in_centimetres() {
     ] {
         let card = absolute(in_centimetres(LONGEST), height, grade);
         let last = [-23, -8, 0, 7, 15].map(|distance| axis + distance);
-        assert_eq!(row_at(card, 300_000)[2..], last, "{height} {grade}");
+        assert_eq!(row_of(card, 300_000)[2..], last, "{height} {grade}");
     }
 }
 

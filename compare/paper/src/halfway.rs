@@ -5,6 +5,7 @@
 
 use crate::card::{absolute, relative};
 use crate::fraction::Tie;
+use crate::readings::row_of;
 use crate::rows::{rows, tie};
 use crate::Numbers;
 
@@ -15,9 +16,7 @@ const CENTIMETRES: [i32; 8] = [1, 1, 150, 75_000, 32, 3125, 20_000, 10];
 
 /// The row at a station without that station: widening; inner brow; inner edge; axis; outer edge; outer brow.
 fn six_at(card: Numbers, station: i32) -> [i32; 6] {
-    let mut rows = rows(&card).into_iter();
-    let row = rows.find(|row| row[0] == station);
-    let [_, six @ ..] = row.expect("a row at that station");
+    let [_, six @ ..] = row_of(card, station);
     six
 }
 

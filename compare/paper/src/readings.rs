@@ -3,7 +3,7 @@
 use crate::card::{least_length, relative};
 use crate::fraction::{fraction, whole, Fraction};
 use crate::section::{Course, Runoff};
-use crate::{check_card, fill_table, read_book, rows, BookReply, Card, TableReply};
+use crate::{check_card, fill_table, read_book, rows, BookReply, Card, Numbers, TableReply};
 
 pub const RAMP_BOOK: &[u8] = b"1\nRAMP 3\n5 1 30 30000 60 600 20000 1\n";
 pub const RAMP: [i32; 8] = [5, 1, 30, 30000, 60, 600, 20000, 1];
@@ -27,10 +27,16 @@ pub fn check(eight: [i32; 8]) -> u32 {
     check_card(&relative(eight))
 }
 
-pub fn row_at(eight: [i32; 8], station: i32) -> [i32; 7] {
-    let mut rows = rows(&relative(eight)).into_iter();
+/// The row of a card at one of its stations.
+pub fn row_of(card: Numbers, station: i32) -> [i32; 7] {
+    let mut rows = rows(&card).into_iter();
     rows.find(|row| row[0] == station)
         .expect("a row at that station")
+}
+
+/// The same of a relative card.
+pub fn row_at(eight: [i32; 8], station: i32) -> [i32; 7] {
+    row_of(relative(eight), station)
 }
 
 pub fn reply(eight: [i32; 8], table_length: usize) -> (u32, u32) {

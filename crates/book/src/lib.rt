@@ -1,4 +1,6 @@
 // Reads and writes a book of cards: a count line, a contents line for each curve, and a body of eight or ten numbers for each.
+#![tactic(auto)]
+
 mod lines;
 mod list_names;
 mod measure;
@@ -36,7 +38,7 @@ pub const LEAST_LIST: usize = 832;
 pub(crate) const PLACES: usize = 64;
 
 // What a book is answered: number 0 and the count of curves, or the refusal and the line at fault, 0 where it is no line's.
-#[derive(Drop)]
+#[derive(Clone, Copy)]
 pub struct BookReply {
     pub number: u32,
     pub count: u32,

@@ -14,7 +14,7 @@ use crate::FRONT_NUMBERS;
 use crate::text::{Field, ReadName, SignedField, plain, read_number, read_signed};
 
 // A contents line: the size of its name, its number, and the place after it.
-#[derive(Drop)]
+#[derive(Clone, Copy)]
 pub(crate) enum Heading {
     Entry {
         size: usize,
@@ -25,7 +25,7 @@ pub(crate) enum Heading {
 }
 
 // The last numbers of a card, as the list has them, and the place after its body.
-#[derive(Drop)]
+#[derive(Clone, Copy)]
 pub(crate) enum LastNumbers {
     Last {
         unit: i32,
@@ -38,7 +38,7 @@ pub(crate) enum LastNumbers {
 }
 
 // What a line leads to: the place after it, or its refusal.
-#[derive(Drop)]
+#[derive(Clone, Copy)]
 pub(crate) enum Line {
     Next(usize),
     Fault(u32),

@@ -6,21 +6,21 @@ ghost use Rattle.book.specs.Printed.{IsNumber};
 ghost use Rattle.book.specs.Reading.{run_at, read_at};
 
 // A number and the place after the byte that ends it.
-#[derive(Drop)]
+#[derive(Clone, Copy)]
 pub(crate) enum Field {
     Value { value: u32, next: usize },
     NoValue,
 }
 
 // A signed number and the place after the byte that ends it.
-#[derive(Drop)]
+#[derive(Clone, Copy)]
 pub(crate) enum SignedField {
     Number { value: i32, next: usize },
     NoNumber,
 }
 
 // A name as it is read: its size, and its bytes as one number.
-#[derive(Drop)]
+#[derive(Clone, Copy)]
 pub(crate) struct ReadName {
     pub size: usize,
     pub key: u64,

@@ -1,4 +1,6 @@
 // The calls for firmware in C: the library's own, with the card as its eleven numbers and the reply as a number and counts.
+#![tactic(auto)]
+
 ghost use Rattle.std.specs.Prelude.{◌≡◌, ◌<◌, length};
 ghost use Rattle.card.specs.Clothoid.{least_length, least_found};
 ghost use Rattle.runoff.specs.Refusal.{refusal};

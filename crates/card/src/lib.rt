@@ -1,5 +1,7 @@
 // The curve card and what every method asks of it: the profiles, the least lengths, the reasons that come before and after a method's own, where
 // rows stand, and how their numbers are rounded.
+#![tactic(auto)]
+
 mod conditions;
 mod tables;
 
@@ -16,14 +18,14 @@ use rounding::{Tie, nearest};
 
 // What the heights of a card count from: its own nought, the inner brow at station 0; or the benchmark, above which the axis stands at
 // `height` mm at station 0 and climbs at `grade` per mille.
-#[derive(Drop)]
+#[derive(Clone, Copy)]
 pub enum Datum {
     Relative,
     Absolute { height: i32, grade: i32 },
 }
 
 // A curve card, its numbers in the order of the paper: lengths in mm but the radius in metres, the slope in per mille.
-#[derive(Drop)]
+#[derive(Clone, Copy)]
 pub struct Card {
     pub profile: u32,
     pub terrain: u32,
@@ -37,7 +39,7 @@ pub struct Card {
 }
 
 // A profile: lengths in mm but the least radius in metres, slopes in per mille.
-#[derive(Drop)]
+#[derive(Clone, Copy)]
 pub struct Profile {
     pub half_width: u32,
     pub shoulder_width: u32,
@@ -50,14 +52,14 @@ pub struct Profile {
 }
 
 // What the search for the least length of a clothoid gives: the length in metres, and how many listed radii it looked at.
-#[derive(Drop)]
+#[derive(Clone, Copy)]
 pub struct LeastLength {
     pub length: u32,
     pub looked: u32,
 }
 
 // What a card and a lent table are answered: 0 and the count of rows, or the number of the reason and 0.
-#[derive(Drop)]
+#[derive(Clone, Copy)]
 pub struct Reply {
     pub number: u32,
     pub count: u32,

@@ -4,7 +4,7 @@ ghost use Rattle.std.specs.Prelude.{◌≡◌, max, min};
 use crate::Profile;
 
 // A listed radius and its least clothoid length, in metres.
-#[derive(Drop)]
+#[derive(Clone, Copy)]
 pub(crate) struct Clothoid {
     pub radius: u32,
     pub length: u32,

@@ -1,4 +1,6 @@
 // The card list: thirteen signed numbers a curve, as the book is read into it; the card and the name's place of a curve.
+#![tactic(auto)]
+
 ghost use Rattle.std.specs.Prelude.{◌≡◌, ◌<◌};
 ghost use Rattle.card_list.specs.List.{number_of, counted, datum_from, card_from, card_of, card_in, name_place_of, name_place_in};
 
@@ -8,7 +10,7 @@ use card::{Card, Datum};
 pub const CURVE_WIDTH: usize = 13;
 
 // Where the name of a curve stands in the text of the book, and how many bytes it has.
-#[derive(Drop)]
+#[derive(Clone, Copy)]
 pub struct NamePlace {
     pub place: u32,
     pub size: u32,

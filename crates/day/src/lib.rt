@@ -1,4 +1,6 @@
 // A whole day's cards in one call: a lent list of cards, one long table for their rows, and a lent list for their replies.
+#![tactic(auto)]
+
 ghost use Rattle.std.specs.Prelude.{◌≡◌, length};
 ghost use Rattle.card_list.specs.List.{cards_of};
 ghost use Rattle.day.specs.Day.{day_reply, day_table, day_replies};

@@ -1,6 +1,8 @@
 // Runs the first cards of a book through both calls for a day's cards, that over card structs and that over plain numbers, with tables and reply
 // lists of some lengths. Prints the reply and the reply list of the first, and in how many numbers of its reply, table and reply list the
 // second differs.
+#![tactic(auto)]
+
 ghost use Rattle.std.specs.Prelude.{◌≡◌, ◌+◌, ◌≤◌, ◌<◌, length};
 ghost use Rattle.day.specs.Day.{day_reply};
 
@@ -22,7 +24,7 @@ const TABLE_ROOM: usize = 63;
 const REPLIES_ROOM: usize = 132;
 
 // What a run lends: how many cards, numbers of the table and numbers of the reply list, and how many of the table to the second call.
-#[derive(Drop)]
+#[derive(Clone, Copy)]
 struct Lent {
     cards: usize,
     table: usize,

@@ -1,4 +1,6 @@
 // The decimal text of counts and of signed numbers, and bytes put into a lent buffer: all of a text from a place on, or nothing.
+#![tactic(auto)]
+
 mod write;
 
 ghost use Rattle.std.specs.Prelude.{◌≡◌, [], ◌∷◌, ◌++◌, ◌+◌, ◌≤◌, leb, length};

@@ -9,7 +9,7 @@ pub(crate) const BOOK_ROOM: usize = 8208;
 const MOST_TIMES: u32 = 8208;
 
 // A byte of the book, and the place in the line after what writes it.
-#[derive(Drop)]
+#[derive(Clone, Copy)]
 struct Written {
     understood: bool,
     byte: u8,
@@ -17,7 +17,7 @@ struct Written {
 }
 
 // Which part of a line is appended, and how often.
-#[derive(Drop)]
+#[derive(Clone, Copy)]
 struct Piece {
     understood: bool,
     times: u32,
@@ -25,7 +25,7 @@ struct Piece {
 }
 
 // How many bytes the book has after a line. A line that is not understood appends nothing.
-#[derive(Drop)]
+#[derive(Clone, Copy)]
 pub(crate) struct Appended {
     pub(crate) understood: bool,
     pub(crate) size: usize,

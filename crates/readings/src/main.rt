@@ -1,6 +1,8 @@
 // Runs the books and the curve cards of a text through the book call and the table call, and compares what they give with the
 // figures that the text expects.
 // The last group of the text has one wrong figure in each line: that its tally counts them all shows that a wrong figure is seen.
+#![tactic(auto)]
+
 mod books;
 mod list;
 mod run;

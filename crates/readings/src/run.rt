@@ -13,7 +13,7 @@ use card::{Card, Datum, Reply};
 
 // How far a text was run: the group's name in the text, how many numbers of the table and of the list are lent, the last card's
 // reply, how many bytes are written of the book, and the reply of its last reading.
-#[derive(Drop)]
+#[derive(Clone, Copy)]
 pub(crate) struct Run {
     pub(crate) name_from: usize,
     pub(crate) name_end: usize,

@@ -1,5 +1,5 @@
 // What is counted of a group of figures.
-#[derive(Drop)]
+#[derive(Clone, Copy)]
 pub(crate) struct Tally {
     pub(crate) books: u32,
     pub(crate) cards: u32,

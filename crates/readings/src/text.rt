@@ -5,7 +5,7 @@ ghost use Rattle.std.specs.Prelude.{◌≤◌, length};
 pub(crate) const MOST_FIGURES: usize = 14;
 
 // A figure of a line. Where the paper prints none the line has an `x`, and nothing is compared.
-#[derive(Drop)]
+#[derive(Clone, Copy)]
 pub(crate) struct Figure {
     pub(crate) printed: bool,
     pub(crate) negative: bool,
@@ -13,14 +13,14 @@ pub(crate) struct Figure {
 }
 
 // The figures of a line. A line that is not understood has none.
-#[derive(Drop)]
+#[derive(Clone, Copy)]
 pub(crate) struct Line {
     pub(crate) count: usize,
     pub(crate) figures: [Figure; MOST_FIGURES],
 }
 
 // A figure that was read, and where it ends.
-#[derive(Drop)]
+#[derive(Clone, Copy)]
 pub(crate) struct Read {
     pub(crate) understood: bool,
     pub(crate) figure: Figure,
@@ -28,7 +28,7 @@ pub(crate) struct Read {
 }
 
 // The size of a number, or 4294967296 for all that are larger than a card can hold, and where its digits end.
-#[derive(Drop)]
+#[derive(Clone, Copy)]
 pub(crate) struct Digits {
     pub(crate) size: u64,
     pub(crate) end: usize,

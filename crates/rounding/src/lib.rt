@@ -1,11 +1,13 @@
 // The one place where a number is rounded: a signed 64-bit numerator, divided downwards once, to an i32; and the division alone.
+#![tactic(auto)]
+
 ghost use Rattle.std.specs.Prelude.{◌≡◌, ◌*◌, ◌≤◌, ◌<◌};
 ghost use Rattle.std.specs.Int.Signed.{mag};
 ghost use Rattle.exact.specs.Rounding.{floor_div, rounded, taken};
 ghost use Rattle.rounding.specs.Nearest.{tie_of, most_over, Roundable, nearest_of, most_divisor, floor_of};
 
 // Where a number halfway between two counts goes.
-#[derive(Drop)]
+#[derive(Clone, Copy)]
 pub enum Tie {
     Lower,
     Higher,

@@ -1,4 +1,6 @@
 // The section rules of typical design 503-0-45: the check of a curve card, the runoff that is made of an accepted one, and the table of its heights.
+#![tactic(auto)]
+
 mod conditions;
 mod counts;
 mod rows;
@@ -24,14 +26,14 @@ use card::{
 pub const ROW_WIDTH: usize = 7;
 
 // How the outer slope turns: evenly, or in two stages whose joint is at num / den mm.
-#[derive(Drop)]
+#[derive(Clone, Copy)]
 pub enum Stages {
     Even,
     TwoStage { num: u64, den: u64 },
 }
 
 // The runoff of an accepted card: lengths in mm, slopes in per mille.
-#[derive(Drop)]
+#[derive(Clone, Copy)]
 pub struct Runoff {
     pub stages: Stages,
     pub half_width: u64,
@@ -45,7 +47,7 @@ pub struct Runoff {
 }
 
 // What a card is made into: its runoff, or the number of the reason that refuses it.
-#[derive(Drop)]
+#[derive(Clone, Copy)]
 pub enum Made {
     Accepted(Runoff),
     Refused(u32),

@@ -15,7 +15,7 @@ use crate::{ROW_WIDTH, Runoff};
 use card::{Card, Datum, station_of};
 
 // A row: the station in mm, the others in counts of the unit.
-#[derive(Drop)]
+#[derive(Clone, Copy)]
 pub(crate) struct Row {
     pub station: i32,
     pub widening: i32,
@@ -27,7 +27,7 @@ pub(crate) struct Row {
 }
 
 // The two heights of one side of the road.
-#[derive(Drop)]
+#[derive(Clone, Copy)]
 pub(crate) struct Sides {
     pub brow: i32,
     pub edge: i32,

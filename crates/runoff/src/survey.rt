@@ -11,7 +11,7 @@ use crate::counts::height;
 use rounding::floor_div;
 
 // The axis at a station: so many whole units, and `rest` micrometres above them.
-#[derive(Drop)]
+#[derive(Clone, Copy)]
 pub(crate) struct Axis {
     pub count: i32,
     pub rest: u64,

@@ -7,7 +7,7 @@ ghost use Rattle.runoff.specs.Reckoning.{section_in, Limits, SlopeIs, SlopesAt};
 use crate::{Runoff, Stages};
 
 // A slope in per mille: (up - down) / over.
-#[derive(Drop)]
+#[derive(Clone, Copy)]
 pub(crate) struct Slope {
     pub up: u64,
     pub down: u64,
@@ -15,7 +15,7 @@ pub(crate) struct Slope {
 }
 
 // What the heights at a station are reckoned from: the slopes over one denominator, of which the outer one is up - down.
-#[derive(Drop)]
+#[derive(Clone, Copy)]
 pub(crate) struct Slopes {
     pub up: u64,
     pub down: u64,

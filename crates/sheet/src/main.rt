@@ -1,5 +1,7 @@
 // Prints the sheet of the book of cards on standard input: its curves in book order, or its refusal.
 // It decides nothing: the calls say what is read, reckoned and printed.
+#![tactic(auto)]
+
 ghost use Rattle.std.specs.Prelude.{true, ◌≡◌, ◌≤◌, ◌<◌, pos, length, replicate};
 ghost use Rattle.book.specs.Book.{least_list, reply_to_book, list_after};
 ghost use Rattle.sheet_text.specs.Buffer.{written_of, buffer_after};

@@ -1,4 +1,6 @@
 // The text of a sheet: of a curve, of a refused card and of a refused book, written into a lent buffer of bytes.
+#![tactic(auto)]
+
 mod line;
 mod rows;
 
@@ -21,7 +23,7 @@ pub const ENOUGH_NUMBERS: usize = 2107;
 pub const ENOUGH_BYTES: usize = 25304;
 
 // What a lent buffer is answered: whether the text fits, and the count of its bytes, which is 0 where it does not.
-#[derive(Drop)]
+#[derive(Clone, Copy)]
 pub struct Written {
     pub fits: bool,
     pub count: usize,

@@ -17,10 +17,9 @@ use Rattle.exact.proofs.Rounded.{rounded_size, taken_most}
 use Rattle.rounding.specs.Nearest.{most_over, reach, tie_of}
 use Rattle.rounding.proofs.Halves.{rounded_halved}
 use Rattle.rounding.proofs.Sizes.{mag_parts}
-use Rattle.rounding.proofs.divided.Statement.{statement}
-use Rattle.rounding.proofs.divided.Tie as tie
+use Rattle.rounding.proofs.divided.Goals as goal
 
-module _ (s : tie.Start) where
+module _ (s : goal.Start) where
   abbrev n : ℤ
   n = s.args.num
 
@@ -37,19 +36,19 @@ module _ (s : tie.Start) where
   rule = tie_of s.args.tie
 
   size-some : 0 < size
-  size-some = omega (arith, s.pre.unit_least)
+  size-some = omega (arith, s.requires.unit_least)
 
   part_some : 0 < part
-  part_some = omega (arith, s.pre.unit_least)
+  part_some = omega (arith, s.requires.unit_least)
 
   part_most : part ≤ 5000
-  part_most = omega (arith, s.pre.unit_most)
+  part_most = omega (arith, s.requires.unit_most)
 
   over_some : 0 < s.args.den
-  over_some = omega (arith, s.pre.near)
+  over_some = omega (arith, s.requires.near)
 
   few : half ≤ most_over * 5000
-  few = mul-le-mul s.pre.few part_most
+  few = mul-le-mul s.requires.few part_most
 
   some : 0 < half
   some = mul-pos over_some part_some
@@ -67,7 +66,7 @@ module _ (s : tie.Start) where
         some,
         taken_most rule,
         mag_parts n,
-        s.pre,
+        s.requires,
         sub_parts (pos half) (pos (taken rule)),
         add_parts n (pos half -ℤ pos (taken rule)),
       ))
@@ -81,16 +80,16 @@ module _ (s : tie.Start) where
       (omega (
         arith,
         abs_parts (rounded rule size x),
-        rounded_size rule size-some x over_some reach (omega (arith, s.pre.near, mag_parts n, abs_parts n)),
+        rounded_size rule size-some x over_some reach (omega (arith, s.requires.near, mag_parts n, abs_parts n)),
       ))
 
 -- what the rule takes off
-module _ (c : tie.After-taken-off) where
+module _ (c : goal.After-taken_off-off) where
   abbrev off : ℕ
-  off = c.taken-off.result
+  off = c.taken_off-off.result
 
   off_is : off ≡ taken (rule c.before)
-  off_is = c.taken-off.ensures
+  off_is = c.taken_off-off.ensures
 
   rest-is : to_z w64 (half c.before - off) ≡ pos (half c.before) -ℤ pos (taken (rule c.before))
   rest-is =
@@ -98,57 +97,42 @@ module _ (c : tie.After-taken-off) where
       ∙ omega (arith, ints, off_is, some c.before, taken_most (rule c.before), sub_parts (pos (half c.before)) (pos (taken (rule c.before))))
 
   lifted_is : to_z w64 (of_z w64 (n c.before)) +ℤ to_z w64 (half c.before - off) ≡ plain c.before
-  lifted_is = ap₂ ◌+ℤ◌ (to_z-of_z c.before.ranges.num) rest-is
+  lifted_is = ap₂ ◌+ℤ◌ (to_z-of_z c.ranges.num) rest-is
 
-result-is : (c : tie.After-divided-down) → to_z w64 (of_z w64 c.divided-down.result) ≡ rounded (rule c.before.before) (size c.before.before) (x c.before.before)
+result-is : (c : goal.After-divided_down-count) → to_z w64 (of_z w64 c.divided_down-count.result) ≡ rounded (rule c.before.before) (size c.before.before) (x c.before.before)
 result-is c =
     let s = c.before.before in
-    to_z-of_z (record { sfits = c.divided-down.type-inv })
-    ∙ c.divided-down.ensures
+    to_z-of_z {w = w64} (record { sfits = c.divided_down-count.type_inv })
+    ∙ c.divided_down-count.ensures
     ∙ ap (λ (z : ℤ). floor_div z (2 * half s)) (back (lifted_is c.before) (lifted_fits s))
     ∙ rounded_halved (rule s) (n s) s.args.den s.args.unit (some s)
 
-mul-part : tie.Need-overflow-mul-part
-mul-part c = search rules
+pub overflow_mul-part : goal.overflow_mul-part
+overflow_mul-part c = search rules
 
-mul-half : tie.Need-overflow-mul-half
-mul-half c = record { fits = omega (arith, few c) }
+pub overflow_mul-half : goal.overflow_mul-half
+overflow_mul-half c = record { fits = omega (arith, few c) }
 
-taken-off-requires : tie.Need-taken-off-requires
-taken-off-requires c κs = search rules
+pub taken_off-off-requires : goal.taken_off-off-requires
+taken_off-off-requires c = search rules
 
-sub-rest : tie.Need-overflow-sub-rest
-sub-rest c = omega (arith, off_is c, some c.before, taken_most (rule c.before))
+pub overflow_sub-rest : goal.overflow_sub-rest
+overflow_sub-rest c = omega (arith, off_is c, some c.before, taken_most (rule c.before))
 
-cast-rest : tie.Need-overflow-cast-rest
-cast-rest c = record { sfits = omega (arith, few c.before) }
+pub overflow_cast-rest : goal.overflow_cast-rest
+overflow_cast-rest c = record { sfits = omega (arith, few c.before) }
 
-add-lifted : tie.Need-overflow-add-lifted
-add-lifted c = fits_as (lifted_is c) (lifted_fits c.before)
+pub overflow_add-lifted : goal.overflow_add-lifted
+overflow_add-lifted c = fits_as (lifted_is c) (lifted_fits c.before)
 
-mul-whole : tie.Need-overflow-mul-whole
-mul-whole c = record { fits = omega (arith, few c.before) }
+pub overflow_mul-whole : goal.overflow_mul-whole
+overflow_mul-whole c = record { fits = omega (arith, few c.before) }
 
-divided-down-requires : tie.Need-divided-down-requires
-divided-down-requires c κs = (omega (arith, some c.before), omega (arith, few c.before))
+pub divided_down-count-requires : goal.divided_down-count-requires
+divided_down-count-requires c = (omega (arith, some c.before), omega (arith, few c.before))
 
-cast-result : tie.Need-overflow-cast-result
-cast-result c = fits_as (result-is c) (fits c.before.before)
+pub overflow_cast-result : goal.overflow_cast-result
+overflow_cast-result c = fits_as (result-is c) (fits c.before.before)
 
-returns : tie.Need-returns
+pub returns : goal.returns
 returns c = back (result-is c) (fits c.before.before)
-
-pub divided_spec : {M : Type 1} → statement M
-divided_spec =
-    tie.close
-    (tie.spec
-    mul-part
-    mul-half
-    taken-off-requires
-    sub-rest
-    cast-rest
-    add-lifted
-    mul-whole
-    divided-down-requires
-    cast-result
-    returns)

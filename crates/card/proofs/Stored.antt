@@ -23,7 +23,7 @@ read z = to_z w32 (of_z w32 z)
 
 pub read_back : (zs : List ℤ) → AllFit zs → map read zs ≡ zs
 read_back [] f = refl
-read_back (z ∷ zs) f = ap₂ (λ x xs. x ∷ xs) (to_z-of_z (record { sfits = f.0 })) (read_back zs f.1)
+read_back (z ∷ zs) f = ap₂ (λ x xs. x ∷ xs) (to_z-of_z {w = w32} (record { sfits = f.0 })) (read_back zs f.1)
 
 -- stores at every place of a list, from the first on
 pub sets_all : (xs l : List ℤ) → length l ≡ length xs → sets l 0 xs ≡ xs

@@ -5,7 +5,7 @@ use mathlib.Core.Bool.{Bool, true, false, not, ◌||◌}
 use mathlib.Core.Logic.Iff
 use mathlib.Core.Logic.{◌↔◌}
 use mathlib.Mathlib.Data.Bool.Basic.{or-eq-false-eq-eq-false-and-eq-false}
-use Prim.Native.Nat.{ℕ, zero, suc, ◌+◌, ◌-◌, ◌*◌, ◌/◌, ◌%◌, ◌^◌, ◌≤◌, ◌<◌}
+use Prim.Native.Nat.{ℕ, zero, suc, ◌-◌, ◌/◌, ◌%◌, ◌^◌, ◌≤◌, ◌<◌}
 use native.Mathlib.Nat.{div-le_self, mod-lt}
 use native.Mathlib.Omega.{arith}
 use lib.Dec.{eqb, leb→le}
@@ -14,7 +14,6 @@ use lib.Signed.{lt_z, quot_z, rem_z, ◌≤ℤ◌}
 use mir.Syntax.{w32}
 use mir.Val.{SFits, of_z}
 use borrow.Author.Tests.{eqb-true, eq-eqb, ne_eqb, le-ltb, not-false}
-use Rattle.exact.specs.Parts.{up, dn}
 use Rattle.exact.proofs.Integers.{ints, lt_no, le_parts, size_parts, neg_up, neg_dn}
 use Rattle.exact.proofs.Machine.{within_sfits}
 use Rattle.card.specs.Words.{beyond}

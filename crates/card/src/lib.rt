@@ -99,8 +99,8 @@ pub fn added_slope(p: Profile, terrain: u32) -> u32
 // The least length of a clothoid, by the radius in metres: the search leaves at the first listed radius that is not below it.
 // A radius above 2000, the last listed one, is sought as 2000, so that all twenty are looked at.
 pub fn least_length(radius: u32) -> LeastLength
-    ensures value { result ≡ least_found radius }
-    ensures looked_value { 2000 < radius → result.looked ≡ 20 }
+    ensures found { result ≡ least_found radius }
+    ensures all_looked { 2000 < radius → result.looked ≡ 20 }
 {
     let table = CLOTHOIDS;
     let sought = lesser(radius, 2000);

@@ -1,4 +1,4 @@
--- Document 01, "The book of cards" and "What a turned_away card or book says": what a book and a lent list are answered, and
+-- Document 01, "The book of cards" and "What a turned-away card or book says": what a book and a lent list are answered, and
 -- the list afterwards. Line 1 is the count n, then come n contents lines, lines 2 to n + 1, then n bodies, lines n + 2 to 2 × n + 1.
 -- Assumes nothing.
 use Rattle.std.specs.Prelude.{ℕ, zero, suc, ◌+◌, ◌*◌, List, [], ◌∷◌, ◌++◌, cond, ◌&&◌, length, drop, ltb, leb, eqb, ℤ, pos}

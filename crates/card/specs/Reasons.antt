@@ -1,4 +1,4 @@
--- Document 01, "What a turned_away card or book says": the reasons that every method shares, as lists of numbered tests. A method puts its
+-- Document 01, "What a turned-away card or book says": the reasons that every method shares, as lists of numbered tests. A method puts its
 -- own between those before (1 to 6) and those after (9, 10, and by document 02, Slip 5, 34 and 35); the room (11) comes last.
 -- Assumes nothing.
 use Rattle.std.specs.Prelude.{Bool, false, cond, not, ◌||◌, ◌&&◌, List, [], ◌∷◌, ℕ, ◌*◌, ◌%◌, eqb, ℤ, pos, neg_ℤ, nat_abs}

@@ -1,4 +1,4 @@
--- Document 01, "What a turned_away card or book says": what a card and a lent table are answered by any method, and the table afterwards.
+-- Document 01, "What a turned-away card or book says": what a card and a lent table are answered by any method, and the table afterwards.
 -- Assumes nothing.
 use Rattle.std.specs.Prelude.{cond, List, ◌++◌, ℕ, eqb, ℤ, drop}
 use Rattle.card.specs.declared.Reply.{Reply}

@@ -14,7 +14,7 @@ use Rattle.runoff.specs.Table.{reply_to}
 abbrev pub falling_ramp : Card
 falling_ramp = absolute_card 5 1 30 30000 60 600 20000 1 (pos 250000) (neg_ℤ (pos 35))
 
--- the longest clothoid of category II, two_stage, with the greatest widening, in units of so many mm
+-- the longest clothoid of category II, two-stage, with the greatest widening, in units of so many mm
 abbrev pub longest : ℕ → ℤ → ℤ → Card
 longest unit height grade = absolute_card 1 1 1000 300000 60 3500 20000 unit height grade
 

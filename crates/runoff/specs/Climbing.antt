@@ -10,7 +10,7 @@ use Rattle.section.specs.Climbing.{ClimbsBy, Tabled}
 use Rattle.runoff.specs.Rows.{station_of, row_width, row_of}
 use Rattle.runoff.specs.Refusal.{refusal}
 
--- the outer_edge_lem numbers n at d and k at e of a card
+-- the outer-edge numbers n at d and k at e of a card
 abbrev pub TabledOf : Card → ℕ → ℕ → ℤ → ℤ → Type 0
 TabledOf card d e n k = Tabled (added_of card) card.unit (section_of card) d e n k
 

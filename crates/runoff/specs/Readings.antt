@@ -46,7 +46,7 @@ pub record Readings : Type 0 where
   -- profile 1, R 125, v 60, level: L 55000 gives 8; L 60000 passes
   pub added_met : (W step unit : ℕ) → Gives 8 (8 ∷ []) (card 1 1 125 55000 60 W step unit)
   pub added_passes : (W step unit : ℕ) → Gives 0 (8 ∷ []) (card 1 1 125 60000 60 W step unit)
-  -- profile 2, v 60: L 93333 is even, 93334 two_stage
+  -- profile 2, v 60: L 93333 is even, 93334 two-stage
   pub even : (terrain R W step unit : ℕ) → is_even (section_of (card 2 terrain R 93333 60 W step unit)) ≡ true
   pub two_stage : (terrain R W step unit : ℕ) → is_even (section_of (card 2 terrain R 93334 60 W step unit)) ≡ false
   -- profile 3, R 700, L 120000, v 40, W 400, unit 10: outer edge 10, 22, 23, 26, 28 at stations 0, 40000, 60000, 100000, 120000

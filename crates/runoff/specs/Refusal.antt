@@ -1,4 +1,4 @@
--- Document 01, "What a turned_away card or book says": the reasons 1 to 11 without 7, which document 02, Slip 1, takes out, and with 34 and 35,
+-- Document 01, "What a turned-away card or book says": the reasons 1 to 11 without 7, which document 02, Slip 1, takes out, and with 34 and 35,
 -- which Slip 5 puts in before 11, as one list of numbered tests. Those that every method shares are the card's; 8 stands between them.
 -- Assumes nothing.
 use Rattle.std.specs.Prelude.{Bool, List, [], ◌∷◌, ◌++◌, ℕ, ◌+◌, ◌*◌}

@@ -10,7 +10,7 @@ use Rattle.runoff.specs.declared.Made.TheVariants.{Accepted, Refused}
 use Rattle.section.specs.Lines.{Section, section_of, is_even, joint_num, joint_den}
 use Rattle.runoff.specs.Refusal.{refusal}
 
--- a runoff is either even or two_stage, with the joint as numerator and denominator
+-- a runoff is either even or two-stage, with the joint as numerator and denominator
 abbrev pub stages_of : Section → Stages
 stages_of x = cond (is_even x) Even (TwoStage (joint_num x) joint_den)
 

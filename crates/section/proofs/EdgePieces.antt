@@ -24,7 +24,7 @@ module _ (x : Section) where
   abbrev pub even_piece : Piece
   even_piece = record { α = x.c * x.q * x.L; δ = 0; β = x.h * (x.p + x.v); γ = x.L }
 
-  -- two_stage, up to the joint: c q at 0, and 3 more for each mm
+  -- two-stage, up to the joint: c q at 0, and 3 more for each mm
   abbrev pub first_piece : Piece
   first_piece = record { α = x.c * x.q; δ = 0; β = 3; γ = 1 }
 
@@ -35,7 +35,7 @@ module _ (x : Section) where
   abbrev pub gain : ℕ
   gain = x.v - x.p
 
-  -- two_stage, from the joint on: c q + 2 h p there, and h times the gain more at L
+  -- two-stage, from the joint on: c q + 2 h p there, and h times the gain more at L
   abbrev pub second_piece : Piece
   second_piece = record { α = (x.c * x.q + joint_num x) * rest; δ = x.h * gain * joint_num x; β = 3 * (x.h * gain); γ = rest }
 
@@ -61,7 +61,7 @@ module _ {x : Section} {s : Exact} (on : On x s) where
   pub on_even : 0 < x.L → 3 * x.L ≤ x.h * (x.p + x.v) → OnPiece (even_piece x) s (outer_edge x s)
   on_even l t = record { a = above s; b = s.den; at = at; is = is_net (outer_edge_lem x s (even_is x at l t)) (omega arith) }
 
--- in the two_stage case the joint is before L
+-- in the two-stage case the joint is before L
 pub joint_before : (x : Section) → x.h * (x.p + x.v) < 3 * x.L → x.p ≤ x.v → joint_num x < 3 * x.L
 joint_before x two turned = omega (arith, mul-le-mul_left x.h turned)
 

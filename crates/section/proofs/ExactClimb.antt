@@ -1,4 +1,4 @@
--- The climbing rule on exact heights, for an even and for a two_stage runoff.
+-- The climbing rule on exact heights, for an even and for a two-stage runoff.
 -- Assumes nothing.
 use mathlib.Core.Path.{◌≡◌, ap, subst}
 use mathlib.Core.Logic.{◌⊎◌, inl, inr}
@@ -66,7 +66,7 @@ module _ {added : ℕ} {x : Section} (ok : ClimbPremises added x) where
       climbs : 0 < x.h * (x.p + x.v)
       climbs = omega (arith, mul-pos ok.wide ok.crowned)
 
-  -- two_stage: a piece up to the joint, and one from there, which is level where the full slope is the crown slope
+  -- two-stage: a piece up to the joint, and one from there, which is level where the full slope is the crown slope
   two_rule : x.h * (x.p + x.v) < 3 * x.L → Rule added x
   two_rule two =
       record {

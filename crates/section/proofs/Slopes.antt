@@ -12,7 +12,7 @@ use Rattle.exact.specs.Parts.{Is}
 use Rattle.exact.proofs.Is.{is_frac, is_whole, is_minus, is_one, is_as, is_net, is_add, is_sub, is_mul, is_div, is_times, is_over, is_less, is_past, is_from_zero, is_yes, is_no}
 use Rattle.section.specs.Lines.{Section, is_even, joint, joint_num, joint_den, outer_slope}
 
--- even or two_stage
+-- even or two-stage
 module _ (x : Section) where
   pub is_even_lem : 3 * x.L ≤ x.h * (x.p + x.v) → is_even x ≡ true
   is_even_lem = le-leb (3 * x.L) (x.h * (x.p + x.v))

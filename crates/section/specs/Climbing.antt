@@ -14,7 +14,7 @@ pub record Level (x : Section) (s t : Exact) : Type 0 where
   pub first : first_reached x ≼ s
   pub second : first_reached x ≼ t
 
--- the two exact outer_edge_lem heights, X at s and Y at t, are fractions over numbers above 0; they are equal exactly when the stations are equal, or when the
+-- the two exact outer-edge heights, X at s and Y at t, are fractions over numbers above 0; they are equal exactly when the stations are equal, or when the
 -- edge is level at both; otherwise the farther is higher, by at most the added slope times the distance
 pub record Climbs (added : ℕ) (x : Section) (s t X Y : Exact) : Type 0 where
   pub fractions : (0 < X.den) × (0 < Y.den)

@@ -18,7 +18,7 @@ moved datum x s y = moved_from datum (axis x) s y
 abbrev pub above_axis : Datum → Section → Exact → Exact
 above_axis datum x s = moved datum x s (outer_edge x s) ⊖ axis_on datum x s
 
--- the exact outer_edge_lem height that the climbing rule reads: of a relative card from its nought, of an absolute one above the axis
+-- the exact outer-edge height that the climbing rule reads: of a relative card from its nought, of an absolute one above the axis
 unfoldable pub read_height : Datum → Section → Exact → Exact
 read_height Relative x s = outer_edge x s
 read_height (Absolute height grade) x s = above_axis (Absolute height grade) x s

@@ -50,7 +50,7 @@ axis_height x = x.c * x.q + x.h * x.p
 abbrev pub axis : Section → Exact
 axis x = whole (axis_height x)
 
--- a runoff is even when h × (p + v) is at least 3 × L, else two_stage
+-- a runoff is even when h × (p + v) is at least 3 × L, else two-stage
 abbrev pub is_even : Section → Bool
 is_even x = leb (3 * x.L) (x.h * (x.p + x.v))
 
@@ -68,7 +68,7 @@ joint x = frac (joint_num x) joint_den
 abbrev pub even_slope : Section → Exact → Exact
 even_slope x s = line (whole 0) (minus x.p) (whole x.L) (whole x.v) s
 
--- two_stage: the outer edge climbs at 3‰ until the joint, so that its slope gains 3 × s over the half carriageway
+-- two-stage: the outer edge climbs at 3‰ until the joint, so that its slope gains 3 × s over the half carriageway
 abbrev pub first_slope : Section → Exact → Exact
 first_slope x s = minus x.p ⊕ whole 3 ⊗ s ⊘ whole x.h
 
@@ -111,7 +111,7 @@ shoulder_slope x s = greater (whole x.q) (inner_slope x s)
 unfoldable pub inner_brow : Section → Exact → Exact
 inner_brow x s = inner_edge x s ⊖ inner_shoulder x s ⊗ shoulder_slope x s
 
--- "first reached": where the outer slope first is v, when v equals p: station L in the even case and 2 × h × p / 3 in the two_stage case
+-- "first reached": where the outer slope first is v, when v equals p: station L in the even case and 2 × h × p / 3 in the two-stage case
 unfoldable pub first_reached : Section → Exact
 first_reached x = cond (is_even x) (whole x.L) (joint x)
 

@@ -6,7 +6,7 @@ use Rattle.exact.specs.Exact.{Exact, whole, minus, ◌⊖◌, ◌⊗◌, ◌≼�
 use Rattle.section.specs.Lines.{Section, On, is_even, joint, outer_slope, outer_edge, inner_shoulder, inner_brow, Fractions}
 use Rattle.section.specs.Climbing.{ClimbPremises}
 
--- from −p at 0 to v at L; in the two_stage case the outer edge climbs at 3‰ until the outer slope is p, at station 2 × h × p / 3
+-- from −p at 0 to v at L; in the two-stage case the outer edge climbs at 3‰ until the outer slope is p, at station 2 × h × p / 3
 pub record Turning (x : Section) : Type 0 where
   pub fractions : (s : Exact) → On x s → Fractions x s
   pub starts : outer_slope x (whole 0) ≈ minus x.p

@@ -1,4 +1,4 @@
--- `book::list_names::name_in_lem` meets its contract.
+-- `book::list_names::name_in` meets its contract.
 -- Assumes nothing.
 use mathlib.Core.Path.{◌≡◌, ap, ◌∙◌}
 use native.Mathlib.Omega.{arith}

@@ -7,9 +7,9 @@ use native.Mathlib.Omega.{arith}
 use lib.IntN.{ℤ, nat_abs, ◌+ℤ◌, ◌-ℤ◌, pos}
 use mir.Syntax.{w32}
 use mir.Val.{SFits}
-use Rattle.exact.specs.Exact.{Exact, whole, ratio, ◌⊕◌, ◌⊖◌, ◌≈◌}
+use Rattle.exact.specs.Exact.{Exact, ratio, ◌⊕◌, ◌⊖◌, ◌≈◌}
 use Rattle.exact.specs.Parts.{Is}
-use Rattle.exact.specs.Rounding.{units, rounded}
+use Rattle.exact.specs.Rounding.{units}
 use Rattle.exact.proofs.Integers.{add_parts, sub_parts, abs_parts, size_parts}
 use Rattle.exact.proofs.Machine.{within_sfits}
 use Rattle.exact.proofs.Ring.{ring}

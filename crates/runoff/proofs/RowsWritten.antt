@@ -6,7 +6,7 @@ use Prim.Native.Nat.{ℕ, zero, suc, ◌+◌, ◌*◌, ◌-◌, ◌≤◌}
 use native.Mathlib.Numerals.{add-one}
 use native.Mathlib.Omega.{arith}
 use lib.IntN.{ℤ}
-use lib.ListN.{length, take, drop}
+use lib.ListN.{take, drop}
 use borrow.Rule.Slice.PartMut.{put_mid, Post-is}
 use Rattle.exact.specs.Exact.{whole}
 use Rattle.card.specs.declared.Card.{Card}

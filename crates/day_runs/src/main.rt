@@ -9,6 +9,7 @@ ghost use Rattle.day.specs.Day.{day_reply};
 use book::{LEAST_LIST, MOST_BYTES};
 use card::{Card, Reply};
 use card_list::CURVE_WIDTH;
+use std::io;
 
 // One card more than a day may have.
 const CARDS_ROOM: usize = 65;
@@ -121,25 +122,30 @@ fn marked_replies() -> [u32; REPLIES_ROOM] {
     replies
 }
 
-fn print_number(number: u32) {
-    io::print_decimal(1, number as u64);
-    io::write_all(1, b" ");
+fn print_number(rt: &impl Print, number: u32) -> io::Result<()> {
+    print!(rt; "{number} ")
 }
 
 // The reply, and the reply list with two numbers more than the cards have in it.
-fn print_replies(reply: Reply, replies: &[u32; REPLIES_ROOM], shown: usize)
+fn print_replies(
+    rt: &impl Print,
+    reply: Reply,
+    replies: &[u32; REPLIES_ROOM],
+    shown: usize,
+) -> io::Result<()>
     requires { shown ≤ 132 }
 {
     let number = reply.number;
     let count = reply.count;
-    print_number(number);
-    print_number(count);
+    print_number(rt, number)?;
+    print_number(rt, count)?;
     let mut place: usize = 0;
     while place < shown {
         let next = replies[place];
-        print_number(next);
+        print_number(rt, next)?;
         place += 1;
     }
+    Ok(())
 }
 
 fn one_more_if(count: usize, differs: bool) -> usize
@@ -227,7 +233,12 @@ fn by_numbers(
 }
 
 // One run by both calls.
-fn run_day(cards: [Card; CARDS_ROOM], bodies: &[[i32; CARD_NUMBERS]; CARDS_ROOM], lent: Lent)
+fn run_day(
+    rt: &impl Print,
+    cards: [Card; CARDS_ROOM],
+    bodies: &[[i32; CARD_NUMBERS]; CARDS_ROOM],
+    lent: Lent,
+) -> io::Result<()>
     requires cards_bound { lent.cards ≤ 65 }
     requires table_bound { lent.table ≤ 63 }
     requires second_bound { lent.second ≤ 63 }
@@ -242,54 +253,57 @@ fn run_day(cards: [Card; CARDS_ROOM], bodies: &[[i32; CARD_NUMBERS]; CARDS_ROOM]
     let answer = by_numbers(bodies, lent, &mut second, &mut answers);
     let listed = tables_differ(&table, &second) + replies_differ(&replies, &answers);
     let differ = listed + reply_differs(reply, answer);
-    print_replies(reply, &replies, shown);
-    io::write_all(1, b"differ: ");
-    io::print_decimal(1, differ as u64);
-    io::write_all(1, b"\n");
+    print_replies(rt, reply, &replies, shown)?;
+    println!(rt; "differ: {differ}")
 }
 
 // Runs what is listed, where the rooms have so many numbers.
-fn run_listed(cards: [Card; CARDS_ROOM], bodies: &[[i32; CARD_NUMBERS]; CARDS_ROOM], lent: Lent) {
+fn run_listed(
+    rt: &impl Print,
+    cards: [Card; CARDS_ROOM],
+    bodies: &[[i32; CARD_NUMBERS]; CARDS_ROOM],
+    lent: Lent,
+) -> io::Result<()> {
     if lent.cards > CARDS_ROOM {
-        return;
+        return Ok(());
     }
     if lent.table > TABLE_ROOM {
-        return;
+        return Ok(());
     }
     if lent.second > TABLE_ROOM {
-        return;
+        return Ok(());
     }
     if lent.replies > REPLIES_ROOM {
-        return;
+        return Ok(());
     }
-    run_day(cards, bodies, lent);
+    run_day(rt, cards, bodies, lent)
 }
 
-fn main() {
+fn main(rt: HostRuntime) -> io::Result<()> {
     let mut text = [0u8; MOST_BYTES];
-    let got = io::read_full(0, &mut text);
+    let got = input::read_full(&mut rt.reader(), &mut text)?;
     let mut list = [0i32; LEAST_LIST];
     book::read_book(&text[..got], &mut list);
     let cards = cards_of(&list);
     let bodies = bodies_of(&list);
-    run_listed(cards, &bodies, rooms(0, 63, 132));
-    run_listed(cards, &bodies, rooms(0, 0, 0));
-    run_listed(cards, &bodies, rooms(1, 21, 2));
-    run_listed(cards, &bodies, rooms(1, 20, 2));
-    run_listed(cards, &bodies, rooms(2, 63, 4));
-    run_listed(cards, &bodies, rooms(3, 63, 7));
-    run_listed(cards, &bodies, rooms(3, 63, 6));
-    run_listed(cards, &bodies, rooms(3, 63, 5));
-    run_listed(cards, &bodies, rooms(5, 63, 10));
-    run_listed(cards, &bodies, rooms(5, 45, 12));
-    run_listed(cards, &bodies, rooms(64, 63, 132));
-    run_listed(cards, &bodies, rooms(64, 63, 128));
-    run_listed(cards, &bodies, rooms(64, 63, 127));
-    run_listed(cards, &bodies, rooms(65, 63, 132));
-    run_listed(cards, &bodies, rooms(65, 63, 129));
-    run_listed(cards, &bodies, rooms(65, 0, 0));
+    run_listed(&rt, cards, &bodies, rooms(0, 63, 132))?;
+    run_listed(&rt, cards, &bodies, rooms(0, 0, 0))?;
+    run_listed(&rt, cards, &bodies, rooms(1, 21, 2))?;
+    run_listed(&rt, cards, &bodies, rooms(1, 20, 2))?;
+    run_listed(&rt, cards, &bodies, rooms(2, 63, 4))?;
+    run_listed(&rt, cards, &bodies, rooms(3, 63, 7))?;
+    run_listed(&rt, cards, &bodies, rooms(3, 63, 6))?;
+    run_listed(&rt, cards, &bodies, rooms(3, 63, 5))?;
+    run_listed(&rt, cards, &bodies, rooms(5, 63, 10))?;
+    run_listed(&rt, cards, &bodies, rooms(5, 45, 12))?;
+    run_listed(&rt, cards, &bodies, rooms(64, 63, 132))?;
+    run_listed(&rt, cards, &bodies, rooms(64, 63, 128))?;
+    run_listed(&rt, cards, &bodies, rooms(64, 63, 127))?;
+    run_listed(&rt, cards, &bodies, rooms(65, 63, 132))?;
+    run_listed(&rt, cards, &bodies, rooms(65, 63, 129))?;
+    run_listed(&rt, cards, &bodies, rooms(65, 0, 0))?;
     // the second call is lent one number too few for its only card
     let mut short = rooms(1, 21, 2);
     short.second = 20;
-    run_listed(cards, &bodies, short);
+    run_listed(&rt, cards, &bodies, short)
 }

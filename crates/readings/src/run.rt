@@ -10,6 +10,7 @@ use crate::tally::{Tally, one_more};
 use crate::text::{Figure, Line, MOST_FIGURES, byte_at, is_number, read_line};
 use book::BookReply;
 use card::{Card, Datum, Reply};
+use std::io;
 
 // How far a text was run: the group's name in the text, how many numbers of the table and of the list are lent, the last card's
 // reply, how many bytes are written of the book, and the reply of its last reading.
@@ -62,31 +63,32 @@ impl Run {
 }
 
 // Prints a group's name and its tally. Before the first group there is no name, and nothing is printed.
-pub(crate) fn print_group(text: &[u8], run: Run) {
+pub(crate) fn print_group(rt: &impl Print, text: &[u8], run: Run) -> io::Result<()> {
     let from = run.name_from;
     let end = run.name_end;
     if from < end && end <= text.len() {
-        io::write_all(1, &text[from..end]);
-        io::write_all(1, b": ");
-        run.tally.print();
+        rt.write_all(&text[from..end])?;
+        rt.print(": ")?;
+        run.tally.print(rt)?;
     }
+    Ok(())
 }
 
 // `g NAME`: prints the group before, and begins one.
-fn begin_group(text: &[u8], from: usize, end: usize, run: Run) -> Run
+fn begin_group(rt: &impl Print, text: &[u8], from: usize, end: usize, run: Run) -> io::Result<Run>
     requires { (from < end) × (end ≤ length text.now) }
 {
     if end - from < 3 || byte_at(text, from + 1) != b' ' {
-        return run.not_understood();
+        return Ok(run.not_understood());
     }
-    print_group(text, run);
+    print_group(rt, text, run)?;
     let mut next = no_group();
     next.name_from = from + 2;
     next.name_end = end;
     next.lent = run.lent;
     next.list_lent = run.list_lent;
     next.wrong_lines = run.wrong_lines;
-    next
+    Ok(next)
 }
 
 // Whether a line has one figure only, a number without a minus.
@@ -363,6 +365,7 @@ fn run_figures(
 
 // Runs the line from `from` to its byte 10. A line that begins with `#` says where the figures come from.
 pub(crate) fn run_line(
+    rt: &impl Print,
     text: &[u8],
     from: usize,
     end: usize,
@@ -370,25 +373,25 @@ pub(crate) fn run_line(
     numbers: &mut [i32; ROOM],
     book: &mut [u8; BOOK_ROOM],
     list: &mut [i32; LIST_ROOM],
-) -> Run
+) -> io::Result<Run>
     requires { (from ≤ end) × (end < length text.now) }
 {
     if from == end {
-        return run.not_understood();
+        return Ok(run.not_understood());
     }
     let kind = text[from];
     if kind == b'#' {
-        return run;
+        return Ok(run);
     }
     if kind == b'g' {
-        return begin_group(text, from, end, run);
+        return begin_group(rt, text, from, end, run);
     }
     if run.name_end == 0 {
-        return run.not_understood();
+        return Ok(run.not_understood());
     }
     if kind == b'b' || kind == b'a' || kind == b'm' {
-        return write_book(&text[from..end], run, book);
+        return Ok(write_book(&text[from..end], run, book));
     }
     let line = read_line(&text[from..end]);
-    run_figures(kind, line, run, numbers, book, list)
+    Ok(run_figures(kind, line, run, numbers, book, list))
 }

@@ -1,3 +1,6 @@
+// The counts of a group of figures.
+use std::io;
+
 // What is counted of a group of figures.
 #[derive(Clone, Copy)]
 pub(crate) struct Tally {
@@ -50,21 +53,20 @@ impl Tally {
         self
     }
 
-    pub(crate) fn print(self) {
+    pub(crate) fn print(self, rt: &impl Print) -> io::Result<()> {
         let books = self.books;
         let cards = self.cards;
         let rows = self.rows;
         let compared = self.compared;
         let failed = self.failed;
-        print_count(books, b" books, ");
-        print_count(cards, b" cards, ");
-        print_count(rows, b" rows, ");
-        print_count(compared, b" figures compared, ");
-        print_count(failed, b" failed\n");
+        print_count(rt, books, " books, ")?;
+        print_count(rt, cards, " cards, ")?;
+        print_count(rt, rows, " rows, ")?;
+        print_count(rt, compared, " figures compared, ")?;
+        print_count(rt, failed, " failed\n")
     }
 }
 
-fn print_count(count: u32, what: &[u8]) {
-    io::print_decimal(1, count as u64);
-    io::write_all(1, what);
+fn print_count(rt: &impl Print, count: u32, what: &str) -> io::Result<()> {
+    print!(rt; "{count}{what}")
 }

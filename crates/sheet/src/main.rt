@@ -9,24 +9,25 @@ ghost use Rattle.sheet_text.specs.Sheet.{enough_numbers, enough_bytes, part_of};
 
 use book::{BookReply, LEAST_LIST, MOST_BYTES};
 use sheet_text::{ENOUGH_BYTES, ENOUGH_NUMBERS, Written};
+use std::io;
 
 // One byte more than a book may have, so that a longer input is seen to be longer.
 const TEXT_ROOM: usize = MOST_BYTES + 1;
 
 // Prints a text that fits the buffer, and stands in it from its start.
-fn print_written(written: Written, buffer: &[u8])
+fn print_written(rt: &impl Print, written: Written, buffer: &[u8]) -> io::Result<()>
     requires { (written.fits ≡ true) × (written.count ≤ length buffer.now) }
 {
     let count = written.count;
-    io::write_all(1, &buffer[..count]);
+    rt.write_all(&buffer[..count])
 }
 
 // Prints the line of a refused book, and nothing for an accepted one.
-fn print_book(reply: BookReply, buffer: &mut [u8])
+fn print_book(rt: &impl Print, reply: BookReply, buffer: &mut [u8]) -> io::Result<()>
     requires { enough_bytes ≤ length buffer.old }
 {
     let written = sheet_text::book_text(reply, buffer);
-    print_written(written, buffer);
+    print_written(rt, written, buffer)
 }
 
 // Writes the text of a curve of the list, counted from 0: its card goes to the table call, and the reply and the rows become text.
@@ -47,37 +48,39 @@ fn write_curve(
 
 // Prints a curve that the book counts, from the list that its text was read into.
 fn print_curve(
+    rt: &impl Print,
     text: &[u8],
     list: &[i32; LEAST_LIST],
     curve: u32,
     table: &mut [i32],
     buffer: &mut [u8],
-)
+) -> io::Result<()>
     requires list_value { list.now ≡ list_after text.now (replicate least_list (pos 0)) }
     requires curve_bound { curve < (reply_to_book text.now least_list).count }
     requires enough_numbers_in_bounds { (enough_numbers ≤ length table.old) × (enough_bytes ≤ length buffer.old) }
 {
     let written = write_curve(text, list, curve, table, buffer);
-    print_written(written, buffer);
+    print_written(rt, written, buffer)
 }
 
 // Prints a refused book's line, or each curve of an accepted one, in order.
-fn print_sheet(text: &[u8]) {
+fn print_sheet(rt: &impl Print, text: &[u8]) -> io::Result<()> {
     let mut list = [0i32; LEAST_LIST];
     let mut table = [0i32; ENOUGH_NUMBERS];
     let mut buffer = [0u8; ENOUGH_BYTES];
     let reply = book::read_book(text, &mut list);
-    print_book(reply, &mut buffer);
+    print_book(rt, reply, &mut buffer)?;
     let curves = reply.count;
     let mut curve: u32 = 0;
     while curve < curves {
-        print_curve(text, &list, curve, &mut table, &mut buffer);
+        print_curve(rt, text, &list, curve, &mut table, &mut buffer)?;
         curve += 1;
     }
+    Ok(())
 }
 
-fn main() {
+fn main(rt: HostRuntime) -> io::Result<()> {
     let mut text = [0u8; TEXT_ROOM];
-    let got = io::read_full(0, &mut text);
-    print_sheet(&text[..got]);
+    let got = input::read_full(&mut rt.reader(), &mut text)?;
+    print_sheet(&rt, &text[..got])
 }

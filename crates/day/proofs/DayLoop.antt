@@ -4,8 +4,6 @@
 use mathlib.Core.Path.{◌≡◌, refl, ap, sym, ◌∙◌}
 use mathlib.Core.Bool.{Bool, true, false, cond}
 use mathlib.Core.List.{List, [], ◌∷◌, ◌++◌, append_assoc}
-use mathlib.Core.WellFounded.InvImage
-use mathlib.Core.WellFounded.{WellFounded}
 use Prim.Native.Nat.{ℕ, suc, ◌+◌, ◌*◌, ◌-◌, ◌≤◌, ◌<◌}
 use native.Mathlib.Nat.{sub-zero}
 use native.Mathlib.Numerals.{add-one}
@@ -13,7 +11,6 @@ use native.Mathlib.Omega.{arith}
 use lib.Dec.{eqb}
 use lib.IntN.{ℤ}
 use lib.ListN.{length, take, drop, get_or, set, length-drop, length-set, length-map, take-append-drop, get_or-map}
-use lib.WfN.{lt-wf_rel}
 use lib.Seq.{take-length, length-take-le, drop-cons, drop-length, get_or-take, take-append-add, drop-append-add, take-suc-set, drop-set-lt}
 use borrow.Author.Tests.{eqb-true}
 use Rattle.card.specs.declared.Card.{Card}
@@ -207,17 +204,3 @@ module _ (cs : List Card) (ts₀ : List ℤ) (rs₀ : List ℕ) where
 
       pub last_turn : (ts ≡ day_table cs ts₀ rs₀) × ((rs ≡ day_replies cs ts₀ rs₀) × (r.number ≡ 0 → ClimbingDay cs ts rs))
       last_turn = (last_table, (last_replies, last_climbs))
-
-  -- ---- the loop's variables, and the order in which it ends
-  pub record Place (n : ℕ) : Type 0 where
-    pub i : ℕ
-    pub u : ℕ
-    pub ts : List ℤ
-    pub rs : List ℕ
-    pub turn : Turn n i u ts rs
-
-  abbrev pub Nearer : (n : ℕ) → Place n → Place n → Type 0
-  Nearer n p q = n - p.i < n - q.i
-
-  pub nearer_wf : (n : ℕ) → WellFounded (Nearer n)
-  nearer_wf n = InvImage.wf (λ (p : Place n). n - p.i) lt-wf_rel.wf

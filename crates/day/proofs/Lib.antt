@@ -4,5 +4,4 @@ pub mod DayLoop
 pub mod DayParts
 pub mod DayNumbers
 pub mod DayReadings
-pub mod Again
 pub mod Says

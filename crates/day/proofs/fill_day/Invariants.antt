@@ -1,0 +1,12 @@
+-- The invariants and measures of `day::fill_day`.
+-- Assumes nothing.
+use Prim.Native.Nat.{◌-◌}
+use Rattle.day.proofs.DayLoop.{Turn}
+use Rattle.day.proofs.fill_day.Given as goal
+
+abbrev pub invariant-loop-i : goal.invariant-loop-i
+invariant-loop-i l =
+    Turn l.cards l.initial.table l.initial.replies l.todo l.i l.used l.table l.replies
+
+abbrev pub decreases-loop-i : goal.decreases-loop-i
+decreases-loop-i l = l.todo - l.i

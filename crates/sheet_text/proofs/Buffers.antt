@@ -11,6 +11,7 @@ use lib.Dec.{leb}
 use borrow.Author.Tests.{le-leb, lt-leb, leb-true, leb-false}
 use Rattle.decimal.specs.Decimal.{count_text}
 use Rattle.decimal.proofs.Choices.{cond_case}
+use Rattle.decimal.proofs.Stores.{Stored, then_bytes}
 use Rattle.sheet_text.specs.declared.Written.{Written}
 use Rattle.sheet_text.specs.Buffer.{sized, written_of, buffer_after, Measures}
 use Rattle.sheet_text.specs.Text.{ended_text}
@@ -90,3 +91,9 @@ module _ (text buffer : List ℕ) {w : Written} (e : w ≡ written_of text (leng
 pub ended_length : (word : List ℕ) (v : ℕ) → length (ended_text word v) ≡ length word + length (count_text v) + 1
 unfolding ended_text
 ended_length word v = length-append word (count_text v ++ (10 ∷ [])) ∙ omega (arith, length-append (count_text v) (10 ∷ []))
+
+-- what is stored behind a stored text makes a longer one
+pub then_stored : (buffer : List ℕ) (at : ℕ) (done more : List ℕ) {middle after : List ℕ} {next end : ℕ}
+    → Stored buffer at done middle next → Stored middle next more after end → Stored buffer at (done ++ more) after end
+then_stored buffer at done more first second =
+    (omega (arith, first.0, second.0, length-append done more), then_bytes buffer at done first more second.1)

@@ -44,7 +44,7 @@ module _ (row : List ℤ) (i : ℕ) (inside : i < length row) (fits : mag (numbe
   pub row_turn : row_text (drop i row) ≡ signed_text (read_in row i) ++ (end_of (length row - (i + 1)) ∷ row_text (drop (i + 1) row))
   unfolding row_text
   row_turn =
-      let read : read_in row i ≡ number_in row i = to_z-of_z (record { sfits = fits }) in
+      let read : read_in row i ≡ number_in row i = to_z-of_z {w = w32} (record { sfits = fits }) in
       ap row_text (drop-cons row i (pos 0) inside) ∙ rw (length-drop, add-one, read)
 
   pub row_size_turn : length (row_text (drop i row)) ≡ length (signed_text (read_in row i)) + 1 + length (row_text (drop (i + 1) row))

@@ -1,0 +1,16 @@
+-- `book::text::digit_at` meets its contract.
+use Rattle.std.proofs.Common.{le-ltb, lt-ltb}
+use Rattle.book.specs.Number.{digit_at}
+use Rattle.book.proofs.text.digit_at.Goals as goal
+
+pub returns-then-b-lt48 : goal.returns-then-b-lt48
+unfolding digit_at
+returns-then-b-lt48 c = simp (← c.byte_at-b.ensures, lt-ltb _ _ c.if-b-lt48.true)
+
+pub returns-then-b-gt57 : goal.returns-then-b-gt57
+unfolding digit_at
+returns-then-b-gt57 c = simp (← c.byte_at-b.ensures, le-ltb _ _ c.if-b-lt48.false, lt-ltb _ _ c.if-b-gt57.true)
+
+pub returns : goal.returns
+unfolding digit_at
+returns c = simp (← c.byte_at-b.ensures, le-ltb _ _ c.if-b-lt48.false, le-ltb _ _ c.if-b-gt57.false)

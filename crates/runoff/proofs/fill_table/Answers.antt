@@ -30,9 +30,8 @@ overflow_cast-count c = omega (arith, c.row_count-rows.ensures, (accepted_rule _
 
 pub returns-then-short-ne0 : goal.returns-then-short-ne0
 returns-then-short-ne0 c =
-    let due =
-    short c.args.card c.args.table.now (none (goal.at.returns-then-short-ne0 c).Else-number-ne0) c.row_count-rows.ensures
-    c.check_room-short.ensures c.if-short-ne0.true in
+    let passes = none (goal.at.returns-then-short-ne0 c).Else-number-ne0 in
+    let due = short c.args.card c.args.table.now passes c.row_count-rows.ensures c.check_room-short.ensures c.if-short-ne0.true in
     record { value = due.0; table_after = due.1.0; climbing_table = due.1.1 }
 
 pub write_rows-requires-clause-count_value : goal.write_rows-requires-clause-count_value
@@ -40,7 +39,7 @@ write_rows-requires-clause-count_value c = (c.row_count-rows.ensures, held (goal
 
 pub returns : goal.returns
 returns c =
-    let due =
-    filled c.args.card c.args.table.now (none (goal.at.returns c).Else-number-ne0) c.row_count-rows.ensures (held (goal.at.returns c).Else-short-ne0)
-    c.write_rows.ensures in
+    let passes = none (goal.at.returns c).Else-number-ne0 in
+    let room = held (goal.at.returns c).Else-short-ne0 in
+    let due = filled c.args.card c.args.table.now passes c.row_count-rows.ensures room c.write_rows.ensures in
     record { value = due.0; table_after = due.1.0; climbing_table = due.1.1 }

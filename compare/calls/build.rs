@@ -3,13 +3,13 @@
 use std::env;
 use std::path::PathBuf;
 
-/// The folder named by PIPPINTERM_LIB (its whole path), or else ../../target/staticlib.
+/// The folder named by PIPPINTERM_LIB (its whole path), or else ../../crates/capi/out.
 fn folder() -> PathBuf {
     if let Some(named) = env::var_os("PIPPINTERM_LIB") {
         return PathBuf::from(named);
     }
     let here = env::var_os("CARGO_MANIFEST_DIR").expect("the folder of this crate");
-    PathBuf::from(here).join("../../target/staticlib")
+    PathBuf::from(here).join("../../crates/capi/out")
 }
 
 fn main() {

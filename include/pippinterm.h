@@ -2,7 +2,7 @@
  * Pippinterm: the table of heights of a curve card, a day's cards in one table,
  * the book of cards, read and written, and the least length of a clothoid.
  *
- * Link target/staticlib/libcapi.a, which `rt staticlib capi` proves and builds
+ * Link libcapi.a, which `rt lib --cpu x86-64` in crates/capi proves and builds
  * for x86-64 and the System V calling convention, as gcc has it there, and for
  * no other target: the SSE registers are used, and so are the 128 bytes below
  * the stack pointer (the red zone), which an interrupt handler on the same

@@ -281,7 +281,7 @@ fn run_listed(
 
 fn main(rt: HostRuntime) -> io::Result<()> {
     let mut text = [0u8; MOST_BYTES];
-    let got = input::read_full(&mut rt.reader(), &mut text)?;
+    let got = input::read_full(&mut rt.stdin(), &mut text)?;
     let mut list = [0i32; LEAST_LIST];
     book::read_book(&text[..got], &mut list);
     let cards = cards_of(&list);

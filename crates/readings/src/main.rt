@@ -43,7 +43,7 @@ fn run_text(
 
 fn main(rt: HostRuntime) -> io::Result<()> {
     let mut text = [0u8; TEXT_ROOM];
-    let got = input::read_full(&mut rt.reader(), &mut text)?;
+    let got = input::read_full(&mut rt.stdin(), &mut text)?;
     let mut numbers = [0i32; ROOM];
     let mut book = [0u8; BOOK_ROOM];
     let mut list = [0i32; LIST_ROOM];

@@ -81,6 +81,6 @@ fn print_sheet(rt: &impl Print, text: &[u8]) -> io::Result<()> {
 
 fn main(rt: HostRuntime) -> io::Result<()> {
     let mut text = [0u8; TEXT_ROOM];
-    let got = input::read_full(&mut rt.reader(), &mut text)?;
+    let got = input::read_full(&mut rt.stdin(), &mut text)?;
     print_sheet(&rt, &text[..got])
 }

@@ -1,4 +1,5 @@
 -- `book::read_book` meets its contract.
+-- Assumes nothing.
 use Rattle.std.proofs.Common.{ap, arith, length, sym, ◌∙◌, ◌≡◌}
 use Rattle.book.proofs.Replies.{accepted_of_lem, list_filled, list_kept, reply_short, reply_text}
 use Rattle.book.proofs.Stores.{drafted}

@@ -1,4 +1,5 @@
 -- `book::unwritten` meets its contract.
+-- Assumes nothing.
 use Rattle.std.proofs.Common.{Bool, cond, eqb, false, refl, true, ℕ, ◌≡◌}
 use Rattle.card.specs.Table.{reply_by}
 use Rattle.book.proofs.unwritten.Goals as goal

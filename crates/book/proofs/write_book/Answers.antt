@@ -1,4 +1,5 @@
 -- `book::write_book` meets its contract.
+-- Assumes nothing.
 use Rattle.std.proofs.Common.{◌*◌, ◌<◌, Bool, List, ap, arith, cond, false, le-ltb, length, lt-ltb, refl, sym, true, ℕ, ℤ, ◌∙◌, ◌≡◌, ◌≤◌}
 use Rattle.book.proofs.BookText.{book_most, book_some}
 use Rattle.book.proofs.WriterLines.{curves_bodies, size_unfit, size_whole}

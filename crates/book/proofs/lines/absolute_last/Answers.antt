@@ -1,4 +1,5 @@
 -- `book::lines::absolute_last` meets its contract.
+-- Assumes nothing.
 use Rattle.std.proofs.Common.{lit<, sym, ◌∙◌}
 use Rattle.book.proofs.NumberText.{number_read}
 use Rattle.book.proofs.Places.{field_next_lem}

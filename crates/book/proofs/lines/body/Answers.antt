@@ -1,4 +1,5 @@
 -- `book::lines::body` meets its contract.
+-- Assumes nothing.
 use Rattle.std.proofs.Common.{◌+◌, ◌-◌, ap, arith, length-set, lit<, of_z, pos, set, sym, to_z, to_z-of_z, w32, ℤ, ◌∙◌, ◌≡◌}
 use Rattle.std.proofs.lemmas.List.Edits.{sets}
 use Rattle.book.proofs.LineLaws.{body_turn}

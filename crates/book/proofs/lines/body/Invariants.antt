@@ -1,4 +1,5 @@
 -- `book::lines::body`: the body is read from here on, and the numbers left are drafted behind those so far.
+-- Assumes nothing.
 use Rattle.std.proofs.Common.{◌≡◌, ◌+◌, ◌≤◌, length}
 use Rattle.std.proofs.lemmas.List.Edits.{sets}
 use Rattle.book.specs.Body.{front_numbers, body_from, numbers_at}

@@ -1,4 +1,5 @@
 -- `book::lines::curve` meets its contract.
+-- Assumes nothing.
 use Rattle.std.proofs.Common.{◌+◌, arith, of_z, pos, set, sym, to_z, to_z-of_z, w32, ◌∙◌, ◌≡◌}
 use Rattle.std.proofs.lemmas.List.Edits.{sets}
 use Rattle.book.proofs.NameText.{name_most}
@@ -15,5 +16,5 @@ returns-clause-by_index c =
     let place : to_z w32 (of_z w32 c.plain-first.result) ≡ pos a.place = to_z-of_z {w = w32} (record { sfits = c.plain-first.type_inv }) ∙ c.plain-first.ensures in
     let size : to_z w32 (of_z w32 c.plain-second.result) ≡ pos a.size = to_z-of_z {w = w32} (record { sfits = c.plain-second.type_inv }) ∙ c.plain-second.ensures in
     λ p z. c.body.ensures.by_index p z
-        ∙ (λ i. sets (set (set a.draft.now a.out (place i)) (a.out + 1) (size i)) (a.out + 2) (numbers_at front_numbers a.text.now a.from))
-        ∙ sym (entry_stores a.text.now a.place a.from a.draft.now a.out a.size c.requires.place_le_most_bytes.1)
+    ∙ (λ i. sets (set (set a.draft.now a.out (place i)) (a.out + 1) (size i)) (a.out + 2) (numbers_at front_numbers a.text.now a.from))
+    ∙ sym (entry_stores a.text.now a.place a.from a.draft.now a.out a.size c.requires.place_le_most_bytes.1)

@@ -1,4 +1,5 @@
 -- `book::lines::is_among` meets its contract.
+-- Assumes nothing.
 use Rattle.std.proofs.Common.{arith, sym, ◌∙◌}
 use Rattle.book.proofs.Keys.{among_here, among_past, among_turn}
 use Rattle.book.proofs.lines.is_among.Goals as goal

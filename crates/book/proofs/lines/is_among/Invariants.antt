@@ -1,4 +1,5 @@
 -- `book::lines::is_among`: no key so far is the one that is sought.
+-- Assumes nothing.
 use Rattle.std.proofs.Common.{◌≡◌, ◌-◌, ◌≤◌, length, drop}
 use Rattle.book.specs.Reading.{among}
 use Rattle.book.proofs.lines.is_among.Given as goal

@@ -1,4 +1,5 @@
 -- `book::lines::last_numbers` meets its contract.
+-- Assumes nothing.
 use Rattle.std.proofs.Common.{ap, lit<, of_z, pos, sym, to_z, to_z-of_z, w32, ℤ, ◌∙◌, ◌≡◌}
 use Rattle.book.proofs.NumberText.{number_read}
 use Rattle.book.specs.Body.{last_at, relative_or}

@@ -1,4 +1,5 @@
 -- `book::lines::read_heading` meets its contract.
+-- Assumes nothing.
 use Rattle.std.proofs.Common.{ap, arith, sym, ◌∙◌}
 use Rattle.book.proofs.LineLaws.{heading_is, heading_none}
 use Rattle.book.proofs.Names.{name_in_lem}

@@ -1,4 +1,5 @@
 -- `book::lines::read_height` meets its contract.
+-- Assumes nothing.
 use Rattle.std.proofs.Common.{lit<, sym, ◌∙◌}
 use Rattle.book.proofs.LineLaws.{signed_next}
 use Rattle.book.proofs.lines.read_height.Goals as goal

@@ -1,4 +1,5 @@
 -- `book::list_names::any_twin` meets its contract.
+-- Assumes nothing.
 use Rattle.std.proofs.Common.{◌+◌, ◌-◌, List, ap, arith, drop, get_or, length, length-drop, sym, take, take_all, ℕ, ◌∙◌, ◌≡◌}
 use Rattle.book.proofs.WriterNames.{twin_here, twin_past, twin_turn}
 use Rattle.book.specs.Reading.{among}

@@ -1,4 +1,5 @@
 -- `book::list_names::any_twin`: no key so far stands again.
+-- Assumes nothing.
 use Rattle.std.proofs.Common.{◌≡◌, ◌-◌, ◌≤◌, length, drop}
 use Rattle.book.specs.WriterSteps.{twin_keys}
 use Rattle.book.proofs.list_names.any_twin.Given as goal

@@ -1,4 +1,5 @@
 -- `book::list_names::name_in` meets its contract.
+-- Assumes nothing.
 use Rattle.std.proofs.Common.{ap, arith, ◌∙◌, ◌≡◌}
 use Rattle.book.proofs.WriterNames.{long_wrong, past_wrong, read_run, read_wrong, stopped_wrong}
 use Rattle.book.specs.Name.{name_run}

@@ -1,4 +1,5 @@
 -- `book::list_names::read_names` meets its contract.
+-- Assumes nothing.
 use Rattle.std.proofs.Common.{◌+◌, ◌<◌, ap, arith, length, set, sym, take, ℕ, ◌∙◌}
 use Rattle.book.proofs.WriterLines.{keys_none, keys_turn, wrong_all_left, wrong_none_left, wrong_turn}
 use Rattle.book.proofs.WriterNames.{read_none, read_some}

@@ -1,4 +1,5 @@
 -- `book::list_names::read_names`: no name so far is wrong, and their keys are kept.
+-- Assumes nothing.
 use Rattle.std.proofs.Common.{◌≡◌, ◌-◌, ◌≤◌, take}
 use Rattle.book.specs.Writing.{some_wrong}
 use Rattle.book.specs.WriterSteps.{keys_in}

@@ -1,4 +1,5 @@
 -- `book::measure::body_size` meets its contract.
+-- Assumes nothing.
 use Rattle.std.proofs.Common.{◌+◌, ◌-◌, ◌<◌, ap, arith, false, length, of_z, sym, to_z, to_z-of_z, true, w32, ℤ, ◌∙◌, ◌≡◌}
 use Rattle.book.proofs.BookText.{body_most}
 use Rattle.book.proofs.WriterBodies.{fit_body, fit_short, numbers-none, numbers_size_turn, shown_most, shown_signed, signed_length, signed_short}

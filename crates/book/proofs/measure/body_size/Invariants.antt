@@ -1,4 +1,5 @@
 -- `book::measure::body_size`: the bytes of the numbers so far are counted.
+-- Assumes nothing.
 use Rattle.std.proofs.Common.{◌≡◌, ◌+◌, ◌-◌, ◌*◌, ◌≤◌, length, drop}
 use Rattle.book.specs.Printed.{numbers_text, shown_numbers}
 use Rattle.book.proofs.measure.body_size.Given as goal

@@ -1,4 +1,5 @@
 -- `book::measure::book_size` meets its contract.
+-- Assumes nothing.
 use Rattle.std.proofs.Common.{◌+◌, ◌<◌, ap, arith, rules, ℕ}
 use Rattle.book.proofs.WriterLines.{body_in, body_long, body_size_unfit, body_size_whole, sizes_first, sizes_last, sizes_turn, sizes_unfit}
 use Rattle.card_list.specs.declared.NamePlace.{NamePlace}

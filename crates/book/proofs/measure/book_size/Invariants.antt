@@ -1,4 +1,5 @@
 -- `book::measure::book_size`: the lines of the curves so far are counted.
+-- Assumes nothing.
 use Rattle.std.proofs.Common.{◌+◌, ◌-◌, ◌*◌, ◌≤◌}
 use Rattle.book.proofs.WriterLines.{SizesAfter}
 use Rattle.book.proofs.measure.book_size.Given as goal

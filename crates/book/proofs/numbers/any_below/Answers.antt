@@ -1,4 +1,5 @@
 -- `book::numbers::any_below` meets its contract.
+-- Assumes nothing.
 use Rattle.std.proofs.Common.{ap, arith, of_z, pos, rules, sym, to_z, w32, ℤ, ◌∙◌, ◌≡◌}
 use lib.Signed.{lt_z}
 use Rattle.book.proofs.WriterBodies.{below_is, below_none, below_turn}

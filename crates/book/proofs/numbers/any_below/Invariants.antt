@@ -1,4 +1,5 @@
 -- `book::numbers::any_below`: no number so far is below 0.
+-- Assumes nothing.
 use Rattle.std.proofs.Common.{◌≡◌, ◌-◌, ◌≤◌, length, drop}
 use Rattle.book.specs.Writing.{has_below}
 use Rattle.book.proofs.numbers.any_below.Given as goal

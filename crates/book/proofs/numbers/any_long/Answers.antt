@@ -1,4 +1,5 @@
 -- `book::numbers::any_long` meets its contract.
+-- Assumes nothing.
 use Rattle.std.proofs.Common.{ap, arith, false, nat_abs, of_z, rules, sym, to_z, true, w32, ℤ, ◌∙◌, ◌≡◌}
 use Rattle.book.proofs.WriterBodies.{long_none, long_turn}
 use Rattle.card.specs.Words.{◌above◌}

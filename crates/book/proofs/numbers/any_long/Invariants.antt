@@ -1,4 +1,5 @@
 -- `book::numbers::any_long`: no number so far is too long.
+-- Assumes nothing.
 use Rattle.std.proofs.Common.{◌≡◌, ◌-◌, ◌≤◌, length, drop}
 use Rattle.book.specs.Writing.{has_long}
 use Rattle.book.proofs.numbers.any_long.Given as goal

@@ -1,4 +1,5 @@
 -- `book::numbers::is_unfit` meets its contract.
+-- Assumes nothing.
 use Rattle.std.proofs.Common.{ap, ap₂, of_z, rules, sym, to_z, w32, ℤ, ◌∙◌, ◌≡◌}
 use Rattle.book.proofs.WriterBodies.{unfit_below, unfit_datum, unfit_long, wrong_datum}
 use Rattle.book.specs.Printed.{grade_of, height_of, mark_of}

@@ -1,4 +1,5 @@
 -- `book::numbers::shown_at` meets its contract.
+-- Assumes nothing.
 use Rattle.std.proofs.Common.{◌+◌, arith, of_z, rules, to_z, w32, ◌∙◌, ◌≡◌}
 use Rattle.book.proofs.WriterBodies.{shown_back, shown_front, shown_most}
 use Rattle.card_list.specs.List.{number_of}

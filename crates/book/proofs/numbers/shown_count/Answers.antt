@@ -1,4 +1,5 @@
 -- `book::numbers::shown_count` meets its contract.
+-- Assumes nothing.
 use Rattle.std.proofs.Common.{SFits, ap, of_z, rules, w32}
 use mir.Facts.{sfits_lit}
 use Rattle.book.proofs.WriterBodies.{shown_absolute, shown_relative}

@@ -1,4 +1,5 @@
 -- `book::reply::bodies` meets its contract.
+-- Assumes nothing.
 use Rattle.std.proofs.Common.{◌*◌, ◌+◌, ◌<◌, List, ap, arith, drop, get_or, length, refl, subst, sym, ℕ, ◌∙◌, ◌≡◌}
 use Rattle.std.proofs.lemmas.List.Edits.{sets}
 use Rattle.book.proofs.BodyText.{body_place}

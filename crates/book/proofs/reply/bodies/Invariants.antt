@@ -1,4 +1,5 @@
 -- `book::reply::bodies`: the bodies left are read from here on, and their curves are drafted behind those so far.
+-- Assumes nothing.
 use Rattle.std.proofs.Common.{◌≡◌, ◌-◌, ◌*◌, ◌≤◌, length, drop}
 use Rattle.std.proofs.lemmas.List.Edits.{sets}
 use Rattle.card_list.specs.List.{curve_width}

@@ -1,4 +1,5 @@
 -- `book::reply::contents` meets its contract.
+-- Assumes nothing.
 use Rattle.std.proofs.Common.{◌+◌, List, [], ap, arith, length-set, rules, subst, sym, take, ℕ, ◌∙◌, ◌≡◌}
 use Rattle.std.proofs.lemmas.List.Edits.{sets}
 use native.Mathlib.Nat.{sub-zero}
@@ -13,7 +14,6 @@ use Rattle.book.specs.Contents.{contents_line, heading_at}
 use Rattle.book.specs.Reading.{entries_by, headings_from, key_at, line_by}
 use Rattle.book.specs.declared.lines.Line.{Line}
 use Rattle.book.specs.declared.text.ReadName.{ReadName}
-use Rattle.card.specs.Reasons.{first}
 use Rattle.book.proofs.reply.contents.Goals as goal
 
 -- the line by the keys that are kept is the line by the places

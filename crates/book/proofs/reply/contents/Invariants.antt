@@ -1,4 +1,5 @@
 -- `book::reply::contents`: the contents lines left are read from here on, and keys, places and sizes of the names so far are kept.
+-- Assumes nothing.
 use Rattle.std.proofs.Common.{◌≡◌, ◌-◌, ◌≤◌, [], length, take}
 use Rattle.book.specs.Book.{most_curves, contents_from}
 use Rattle.book.proofs.Kept.{Kept}

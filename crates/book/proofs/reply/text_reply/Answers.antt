@@ -1,4 +1,5 @@
 -- `book::reply::text_reply` meets its contract.
+-- Assumes nothing.
 use Rattle.std.proofs.Common.{ap, arith, lit<, sym, ℕ, ◌∙◌}
 use Rattle.std.proofs.lemmas.List.Edits.{sets}
 use Rattle.book.proofs.Places.{field_next_lem}
@@ -48,5 +49,5 @@ returns-else-value-gt-MOST_CURVES-clause-draft_after c =
     let n = c.in-Value.value in
     let e = sym c.read_number-field.ensures ∙ c.in-Value.is in
     λ z. (c.contents.ensures.count_value z).1
-        ∙ ap (λ (p : ℕ). sets d 0 (entries_from n s p (after_headings n s p))) (sym (ap (field_next 0) e))
-        ∙ ap (λ (m : ℕ). sets d 0 (entries_of s m)) (sym (c.contents.ensures.count_value z).0)
+    ∙ ap (λ (p : ℕ). sets d 0 (entries_from n s p (after_headings n s p))) (sym (ap (field_next 0) e))
+    ∙ ap (λ (m : ℕ). sets d 0 (entries_of s m)) (sym (c.contents.ensures.count_value z).0)

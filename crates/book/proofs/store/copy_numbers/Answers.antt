@@ -1,4 +1,5 @@
 -- `book::store::copy_numbers` meets its contract.
+-- Assumes nothing.
 use Rattle.std.proofs.Common.{SFits, arith, get_or, pos, rules, set, to_z-of_z, w32, ◌∙◌}
 use Rattle.book.proofs.Stores.{copy_turn}
 use Rattle.book.proofs.store.copy_numbers.Goals as goal

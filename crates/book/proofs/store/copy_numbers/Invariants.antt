@@ -1,4 +1,5 @@
 -- `book::store::copy_numbers`: the first i numbers are copied.
+-- Assumes nothing.
 use Rattle.std.proofs.Common.{◌≡◌, ◌-◌, ◌≤◌, ◌++◌, take, drop}
 use Rattle.book.proofs.store.copy_numbers.Given as goal
 

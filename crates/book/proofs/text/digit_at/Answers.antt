@@ -1,4 +1,5 @@
 -- `book::text::digit_at` meets its contract.
+-- Assumes nothing.
 use Rattle.std.proofs.Common.{le-ltb, lt-ltb}
 use Rattle.book.specs.Number.{digit_at}
 use Rattle.book.proofs.text.digit_at.Goals as goal

@@ -1,4 +1,5 @@
 -- `book::text::digits` meets its contract.
+-- Assumes nothing.
 use Rattle.std.proofs.Common.{◌*◌, ◌+◌, ◌-◌, ◌<◌, ap, arith, lit<, ltb-false, ltb-true, sym, ℕ, ◌∙◌, ◌≡◌}
 use Rattle.book.proofs.Places.{base_more, digit_inside, digits-stop, digits_none, digits_turn, power_wide}
 use Rattle.book.specs.Number.{digit_at, digits_at}

@@ -1,4 +1,5 @@
 -- `book::text::digits`: the number so far, and what is read from here on.
+-- Assumes nothing.
 use Rattle.std.proofs.Common.{◌≡◌, ◌+◌, ◌-◌, ◌^◌, ◌≤◌, ◌<◌, length}
 use Rattle.book.specs.Number.{digits_at}
 use Rattle.book.proofs.text.digits.Given as goal

@@ -1,4 +1,5 @@
 -- `book::text::ended` meets its contract.
+-- Assumes nothing.
 use Rattle.std.proofs.Common.{eq-eqb, ne_eqb}
 use Rattle.book.specs.Number.{ended_at}
 use Rattle.book.proofs.text.ended.Goals as goal

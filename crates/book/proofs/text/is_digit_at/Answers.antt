@@ -1,4 +1,5 @@
 -- `book::text::is_digit_at` meets its contract.
+-- Assumes nothing.
 use Rattle.std.proofs.Common.{◌-◌, ◌<◌, arith, le-ltb, lt-ltb}
 use Rattle.book.specs.Number.{digit_at}
 use Rattle.book.proofs.text.is_digit_at.Goals as goal

@@ -1,4 +1,5 @@
 -- `book::text::name_run` meets its contract.
+-- Assumes nothing.
 use Rattle.std.proofs.Common.{◌+◌, ◌-◌, List, ap, ap₂, arith, lit<, refl, sym, true, ℕ, ◌∙◌, ◌≡◌}
 use Rattle.book.proofs.Keys.{key_more}
 use Rattle.book.proofs.Names.{name_byte_inside, run_none, run_stop, run_turn}

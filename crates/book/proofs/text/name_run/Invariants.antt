@@ -1,4 +1,5 @@
 -- `book::text::name_run`: the key of the bytes so far, and how many are left to count.
+-- Assumes nothing.
 use Rattle.std.proofs.Common.{◌≡◌, ◌+◌, ◌-◌, ◌^◌, ◌≤◌, ◌<◌, length}
 use Rattle.book.specs.Name.{name_run}
 use Rattle.book.specs.Reading.{key_from}

@@ -1,4 +1,5 @@
 -- `book::text::read_minus` meets its contract.
+-- Assumes nothing.
 use Rattle.std.proofs.Common.{sym, ◌∙◌}
 use Rattle.book.proofs.NumberText.{number_read}
 use Rattle.book.proofs.text.read_minus.Goals as goal

@@ -1,4 +1,5 @@
 -- `book::text::read_name` meets its contract.
+-- Assumes nothing.
 use Rattle.std.proofs.Common.{ap, arith, eq-eqb, ne_eqb, ◌≡◌}
 use Rattle.book.proofs.Names.{run_in}
 use Rattle.book.specs.Name.{name_at, name_run}

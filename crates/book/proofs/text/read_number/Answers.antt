@@ -1,4 +1,5 @@
 -- `book::text::read_number` meets its contract.
+-- Assumes nothing.
 use Rattle.std.proofs.Common.{◌+◌, ap, arith, sym, ℕ, ◌∙◌}
 use Rattle.book.proofs.Places.{digit_inside, field-none, field_some, field_zero}
 use Rattle.book.specs.Number.{digits_at}

@@ -1,4 +1,5 @@
 -- `book::text::read_signed` meets its contract.
+-- Assumes nothing.
 use Rattle.std.proofs.Common.{ap, of_z, pos, refl, sym, to_z, to_z-of_z, w32, ℤ, ◌∙◌, ◌≡◌}
 use Rattle.book.proofs.NumberText.{number_read}
 use Rattle.book.proofs.SignedText.{signed_minus, signed_plain}

@@ -1,4 +1,5 @@
 -- `book::write::write_bodies` meets its contract.
+-- Assumes nothing.
 use Rattle.std.proofs.Common.{◌+◌, List, ap, arith, length, sym, ℤ, ◌∙◌}
 use Rattle.std.proofs.lemmas.List.Edits.{sets}
 use Rattle.book.proofs.WriterLines.{bodies_after, bodies_all, bodies_none, body_in, body_long, texts_none, texts_size_turn, texts_turn, unfits_turn}

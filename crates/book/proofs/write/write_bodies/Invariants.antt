@@ -1,4 +1,5 @@
 -- `book::write::write_bodies`: the bodies so far are written.
+-- Assumes nothing.
 use Rattle.std.proofs.Common.{◌≡◌, ◌+◌, ◌-◌, ◌≤◌, false, length}
 use Rattle.std.proofs.lemmas.List.Edits.{sets}
 use Rattle.book.specs.Printed.{body_texts}

@@ -1,4 +1,5 @@
 -- `book::write::write_body` meets its contract.
+-- Assumes nothing.
 use Rattle.std.proofs.Common.{◌+◌, ◌-◌, ◌<◌, ap, ap₂, arith, length, of_z, subst, sym, to_z, to_z-of_z, w32, ◌∙◌, ◌≡◌}
 use Rattle.std.proofs.lemmas.List.Edits.{sets}
 use Rattle.book.proofs.WriterBodies.{body_shows, fit_short, here_text, numbers-none, numbers_size_turn, numbers_turn, shown_most, shown_signed}

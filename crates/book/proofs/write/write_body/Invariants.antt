@@ -1,4 +1,5 @@
 -- `book::write::write_body`: the numbers so far are written.
+-- Assumes nothing.
 use Rattle.std.proofs.Common.{◌≡◌, ◌+◌, ◌-◌, ◌≤◌, length, drop}
 use Rattle.std.proofs.lemmas.List.Edits.{sets}
 use Rattle.book.specs.Printed.{numbers_text, shown_numbers}

@@ -1,4 +1,5 @@
 -- `book::write::write_contents` meets its contract.
+-- Assumes nothing.
 use Rattle.std.proofs.Common.{◌+◌, ◌++◌, ◌-◌, ◌<◌, List, ap, arith, drop, false, length, subst, sym, take, ℕ, ℤ, ◌∙◌, ◌≡◌, ◌≤◌}
 use Rattle.std.proofs.lemmas.List.Edits.{sets}
 use Rattle.book.proofs.WriterLines.{contents_after, contents_all, contents_none, contents_size_turn, contents_turn, wrong_at}

@@ -1,4 +1,5 @@
 -- `book::write::write_contents`: the contents lines so far are written.
+-- Assumes nothing.
 use Rattle.std.proofs.Common.{◌≡◌, ◌+◌, ◌-◌, ◌≤◌, length}
 use Rattle.std.proofs.lemmas.List.Edits.{sets}
 use Rattle.book.proofs.WriterLines.{contents_after}

@@ -1,4 +1,5 @@
 -- `book::write::write_heading` meets its contract.
+-- Assumes nothing.
 use Rattle.std.proofs.Common.{◌+◌, List, add-one, ap, arith, length, length-append, length-set, set, ℕ, ◌∙◌, ◌∷◌, ◌≡◌}
 use Rattle.std.proofs.lemmas.List.Edits.{sets}
 use Rattle.book.specs.Printed.{contents_text, number_text}

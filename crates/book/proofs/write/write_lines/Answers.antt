@@ -1,4 +1,5 @@
 -- `book::write::write_lines` meets its contract.
+-- Assumes nothing.
 use Rattle.std.proofs.Common.{◌+◌, ◌++◌, ap, arith, sym, ◌∙◌}
 use Rattle.std.proofs.lemmas.List.Edits.{sets}
 use Rattle.book.proofs.WriterLines.{book_length, book_lines}

@@ -1,7 +1,7 @@
 -- `book::write::write_number` meets its contract.
+-- Assumes nothing.
 use Rattle.std.proofs.Common.{◌+◌, ◌++◌, List, [], length, subst, sym, ℕ, ◌∷◌, ◌≤◌}
 use Rattle.book.proofs.WriterBodies.{number_text_lem}
-use Rattle.book.proofs.WriterLines.{after}
 use Rattle.book.specs.Printed.{IsNumber, number_text}
 use Rattle.decimal.proofs.Puts.{Puts, stored_puts}
 use Rattle.decimal.proofs.Stores.{Stored}

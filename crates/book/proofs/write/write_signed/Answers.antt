@@ -1,8 +1,8 @@
 -- `book::write::write_signed` meets its contract.
+-- Assumes nothing.
 use Rattle.std.proofs.Common.{◌+◌, List, [], ap, arith, length, refl, subst, to_z-of_z, ℕ, ℤ, ◌∙◌, ◌∷◌, ◌≡◌, ◌≤◌}
 use Rattle.std.proofs.lemmas.List.Edits.{sets}
 use Rattle.book.proofs.WriterBodies.{signed_length, signed_text_lem}
-use Rattle.book.proofs.WriterLines.{after}
 use Rattle.decimal.proofs.Puts.{Puts, stored_puts}
 use Rattle.decimal.proofs.Stores.{Stored, then_bytes}
 use Rattle.decimal.specs.Decimal.{signed_text}

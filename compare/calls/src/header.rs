@@ -85,12 +85,11 @@ const OTHERS: [(&str, u32); 39] = [
     ("enough book", GREATEST_BOOK),
 ];
 
-/// The word and the number of a line that has a constant; the version is the header's own, and in no paper.
+/// The word and the number of a line that has a constant.
 fn constant(line: &str) -> Option<(String, u32)> {
     let mut words = line.strip_prefix("#define PIPPINTERM_")?.split_whitespace();
     let word = words.next()?.to_lowercase().replace('_', " ");
-    let number = words.next()?.parse().ok()?;
-    (!word.starts_with("version ")).then_some((word, number))
+    Some((word, words.next()?.parse().ok()?))
 }
 
 #[test]

@@ -1,0 +1,10 @@
+-- The loop of `readings::list::fill_list_with_marks` stays within the list.
+-- Assumes nothing.
+use Rattle.std.proofs.Common.{◌≤◌, ◌-◌}
+use Rattle.readings.proofs.list.fill_list_with_marks.Given as goal
+
+abbrev pub invariant-loop-place : goal.invariant-loop-place
+invariant-loop-place l = l.place ≤ 896
+
+abbrev pub decreases-loop-place : goal.decreases-loop-place
+decreases-loop-place l = 896 - l.place

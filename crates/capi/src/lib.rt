@@ -23,7 +23,7 @@ use runoff::{check_card, fill_table};
 pub extern "C" fn pippinterm_least_length(radius: u32, looked: &mut u32) -> u32
     ensures value { result ≡ least_length radius }
     ensures looked_after { looked.new ≡ (least_found radius).looked }
-    ensures looked_after_2 { 2000 < radius → looked.new ≡ 20 }
+    ensures all_looked { 2000 < radius → looked.new ≡ 20 }
 {
     let found = least_length(radius);
     let radii = found.looked;

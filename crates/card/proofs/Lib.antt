@@ -1,8 +1,9 @@
 pub mod SharedBoundaries
-pub mod Product
 pub mod Every
 pub mod Steps
+pub mod Turns
 pub mod Tests
+pub mod Told
 pub mod Replies
 pub mod Clothoids
 pub mod Unmet
@@ -11,6 +12,5 @@ pub mod Entries
 pub mod RowPlaces
 pub mod Accepts
 pub mod Joined
-pub mod Stored
 pub mod AccurateNumbers
 pub mod Moving

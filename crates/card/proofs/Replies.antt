@@ -7,7 +7,7 @@ use Prim.Native.Nat.{ℕ, ◌*◌, ◌≤◌}
 use lib.IntN.{ℤ}
 use lib.ListN.{drop}
 use borrow.Author.Tests.{ne_eqb}
-use Rattle.card.specs.declared.Reply.{Reply}
+use Rattle.card.specs.Table.{Reply}
 use Rattle.card.specs.Reasons.{Test, first, tests_room, refusal_room}
 use Rattle.card.specs.Table.{reply_by, table_by}
 use Rattle.card.proofs.Every.{every}

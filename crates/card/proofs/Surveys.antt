@@ -1,53 +1,22 @@
--- The height and the grade of an absolute card: the conditions 34 and 35 as the code tests them, and what holds where they are not met.
+-- The height and the grade of an absolute card: the conditions 34 and 35, and what holds where they are not met.
 -- Assumes nothing.
-use mathlib.Core.Path.{◌≡◌, refl, sym, ap, ◌∙◌}
-use mathlib.Core.Bool.{Bool, true, false, not, ◌||◌}
+use mathlib.Core.Path.{◌≡◌, refl, ap}
+use mathlib.Core.Bool.{false, not}
 use mathlib.Core.Logic.Iff
 use mathlib.Core.Logic.{◌↔◌}
 use mathlib.Mathlib.Data.Bool.Basic.{or-eq-false-eq-eq-false-and-eq-false}
-use Prim.Native.Nat.{ℕ, zero, suc, ◌-◌, ◌/◌, ◌%◌, ◌^◌, ◌≤◌, ◌<◌}
-use native.Mathlib.Nat.{div-le_self, mod-lt}
+use Prim.Native.Nat.{ℕ, ◌%◌, ◌≤◌}
 use native.Mathlib.Omega.{arith}
-use lib.Dec.{eqb, leb→le}
+use lib.Dec.{leb→le}
 use lib.IntN.{ℤ, pos, negsuc, neg_ℤ, nat_abs}
-use lib.Signed.{lt_z, quot_z, rem_z, ◌≤ℤ◌}
-use mir.Syntax.{w32}
-use mir.Val.{SFits, of_z}
-use borrow.Author.Tests.{eqb-true, eq-eqb, ne_eqb, le-ltb, not-false}
-use Rattle.exact.proofs.Integers.{ints, lt_no, le_parts, size_parts, neg_up, neg_dn}
-use Rattle.exact.proofs.Machine.{within_sfits}
+use lib.Signed.{lt_z, ◌≤ℤ◌}
+use borrow.Author.Tests.{eqb-true, eq-eqb, le-ltb, not-false}
+use Rattle.exact.proofs.Integers.{ints, lt_no, le_parts, size_parts}
 use Rattle.card.specs.Words.{beyond}
 use Rattle.card.specs.declared.Datum.{Datum}
 use Rattle.card.specs.declared.Datum.TheVariants.{Relative, Absolute}
 use Rattle.card.specs.Reasons.{not_whole, wrong_height, height_met, grade_met}
 use Rattle.card.specs.Accepted.{Surveyed, InSurvey}
-
--- ---- the division of a height by the unit
-pub quot_fits : (z : ℤ) (u : ℕ) → SFits w32 z → SFits w32 (quot_z z (pos u))
-quot_fits (pos a) u f = record { sfits = omega (arith, div-le_self a u, f.sfits) }
-quot_fits (negsuc a) u f =
-    within_sfits w32 (neg_ℤ (pos (suc a / u)))
-    (omega (arith, div-le_self (suc a) u, f.sfits, neg_up (pos (suc a / u)), neg_dn (pos (suc a / u))))
-
--- the remainder of a number below nought has the sign of the number; its bits are nought where its size is
-neg_bits : (r : ℕ) → r < 10 → eqb (of_z w32 (neg_ℤ (pos r))) 0 ≡ eqb r 0
-neg_bits zero h = refl
-neg_bits (suc r) h = ne_eqb (2 ^ 32 - suc r) 0 (λ e. absurd (omega arith)) ∙ sym (ne_eqb (suc r) 0 (λ e. absurd (omega arith)))
-
-pub rest_bits : (z : ℤ) (u : ℕ) → 1 ≤ u → u ≤ 10 → eqb (of_z w32 (rem_z z (pos u))) 0 ≡ eqb (nat_abs z % u) 0
-rest_bits (pos a) u low high = refl
-rest_bits (negsuc a) u low high = neg_bits (suc a % u) (omega (arith, mod-lt (suc a) {m = u} low))
-
--- ---- 34, by the two tests of the code; z is the height as it is read back
-pub height_beyond : {z h : ℤ} {b : Bool} (u : ℕ) → z ≡ h → b ≡ beyond z (neg_ℤ (pos 100000)) (pos 9000000) → b ≡ true → true ≡ wrong_height u h
-height_beyond {z} {h} u same is met =
-    sym (ap (λ (t : Bool). t || not_whole u h) (ap (λ (y : ℤ). beyond y (neg_ℤ (pos 100000)) (pos 9000000)) (sym same) ∙ sym is ∙ met))
-
-pub height_within :
-    {z h : ℤ} {b t : Bool} (u : ℕ) → z ≡ h → b ≡ beyond z (neg_ℤ (pos 100000)) (pos 9000000) → b ≡ false → t ≡ not_whole u z → t ≡ wrong_height u h
-height_within {z} {h} u same is left whole =
-    whole ∙ ap (not_whole u) same
-    ∙ sym (ap (λ (t : Bool). t || not_whole u h) (ap (λ (y : ℤ). beyond y (neg_ℤ (pos 100000)) (pos 9000000)) (sym same) ∙ sym is ∙ left))
 
 -- ---- the conditions turned round
 le_not_lt : (a b : ℤ) → b ≤ℤ a → lt_z a b ≡ false

@@ -6,5 +6,6 @@ pub mod Rows
 pub mod Datum
 pub mod Reasons
 pub mod Table
+pub mod Told
 pub mod Accepted
 pub mod Boundaries

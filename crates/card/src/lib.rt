@@ -3,6 +3,7 @@
 #![tactic(auto)]
 
 mod conditions;
+mod reasons;
 mod tables;
 
 ghost use Rattle.std.specs.Prelude.{◌≡◌, ◌≤◌, ◌<◌, drop};
@@ -10,21 +11,24 @@ ghost use Rattle.rounding.specs.Nearest.{tie_of, nearest_of};
 ghost use Rattle.card.specs.Profile.{profile_at, added_slope};
 ghost use Rattle.card.specs.Clothoid.{least_found};
 ghost use Rattle.card.specs.Reasons.{first, tests_by, tests_datum, refusal_before, refusal_after, refusal_room};
+ghost use Rattle.card.specs.Told.{refusal_number, number_told};
 ghost use Rattle.card.specs.Rows.{rows_to, station_to, tie};
 
-use crate::conditions::{is_beyond, is_neither, is_outside, is_too_wide, is_wrong_height};
-use crate::tables::{CLOTHOIDS, PROFILES, lesser, longer};
+use crate::conditions::{is_neither, is_too_wide, is_wrong_height};
+use crate::tables::{CLOTHOIDS, PROFILES};
+pub use reasons::{Numbered, Refusal, in_numbers};
 use rounding::{Tie, nearest};
 
 // What the heights of a card count from: its own nought, the inner brow at station 0; or the benchmark, above which the axis stands at
-// `height` mm at station 0 and climbs at `grade` per mille.
+// `height` mm at station 0 and climbs at `grade` per mille. An enum of the paper's two words, and no Option.
 #[derive(Clone, Copy)]
 pub enum Datum {
     Relative,
     Absolute { height: i32, grade: i32 },
 }
 
-// A curve card, its numbers in the order of the paper: lengths in mm but the radius in metres, the slope in per mille.
+// A curve card, its numbers in the order of the paper: lengths in mm but the radius in metres, the slope in per mille. Profile, terrain and
+// unit are numbers and no enums: a card may hold any, and is refused for a wrong one.
 #[derive(Clone, Copy)]
 pub struct Card {
     pub profile: u32,
@@ -39,7 +43,7 @@ pub struct Card {
 }
 
 // A profile: lengths in mm but the least radius in metres, slopes in per mille.
-#[derive(Clone, Copy)]
+#[derive(Clone, Copy, Default)]
 pub struct Profile {
     pub half_width: u32,
     pub shoulder_width: u32,
@@ -58,28 +62,12 @@ pub struct LeastLength {
     pub looked: u32,
 }
 
-// What a card and a lent table are answered: 0 and the count of rows, or the number of the reason and 0.
-#[derive(Clone, Copy)]
-pub struct Reply {
-    pub number: u32,
-    pub count: u32,
-}
-
-// The profile with this number, 1 to 5; any other number has a profile of noughts.
+// The profile with this number, 1 to 5; any other has a profile of noughts, and not None: a call that could not fail still cannot.
 pub fn profile_at(number: u32) -> Profile
     ensures { result ≡ profile_at number }
 {
-    if is_outside(number, 1, 5) {
-        return Profile {
-            half_width: 0,
-            shoulder_width: 0,
-            crown_slope: 0,
-            shoulder_slope: 0,
-            least_shoulder: 0,
-            least_radius: 0,
-            added_level: 0,
-            added_mountain: 0,
-        };
+    if !(1..=5).contains(&number) {
+        return Profile::default();
     }
     let i = (number - 1) as usize;
     PROFILES[i]
@@ -97,154 +85,125 @@ pub fn added_slope(p: Profile, terrain: u32) -> u32
 }
 
 // The least length of a clothoid, by the radius in metres: the search leaves at the first listed radius that is not below it.
-// A radius above 2000, the last listed one, is sought as 2000, so that all twenty are looked at.
+// A radius above 2000, the last listed one, is sought as 2000, so that all twenty are looked at. Radius by radius, and not by halves: those that
+// are looked at are counted.
 pub fn least_length(radius: u32) -> LeastLength
     ensures found { result ≡ least_found radius }
     ensures all_looked { 2000 < radius → result.looked ≡ 20 }
 {
-    let table = CLOTHOIDS;
-    let sought = lesser(radius, 2000);
+    let sought = radius.min(2000);
     let mut before: u32 = 0;
-    let mut i: u32 = 0;
-    loop {
-        let entry = table[i as usize];
+    for (i, entry) in CLOTHOIDS.iter().enumerate() {
         if sought <= entry.radius {
-            break;
+            let looked = i as u32 + 1;
+            if sought == entry.radius {
+                return LeastLength {
+                    length: entry.length,
+                    looked,
+                };
+            }
+            let length = before.max(entry.length);
+            return LeastLength { length, looked };
         }
         before = entry.length;
-        i += 1;
     }
-    let entry = table[i as usize];
-    let looked = i + 1;
-    if sought == entry.radius {
-        return LeastLength {
-            length: entry.length,
-            looked: looked,
-        };
-    }
-    let length = longer(before, entry.length);
-    LeastLength {
-        length: length,
-        looked: looked,
-    }
+    unreachable!()
 }
 
-// 0, or the number of the first of the reasons that come before a method's own, 1 to 6.
-pub fn check_before(card: Card) -> u32
-    ensures { result ≡ refusal_before card }
+// The first of the reasons that come before a method's own, 1 to 6, where one is met.
+#[tactic(auto, unfolding(crate::specs::Reasons::refusal_before))]
+pub fn check_before(card: Card) -> Result<(), Refusal>
+    ensures { number_told refusal_number result ≡ refusal_before card }
 {
-    let profile = card.profile;
-    let terrain = card.terrain;
-    if is_outside(profile, 1, 5) {
-        return 1;
+    if !(1..=5).contains(&card.profile) {
+        return Err(Refusal::Profile);
     }
-    if is_neither(terrain, 1, 2) {
-        return 2;
+    if is_neither(card.terrain, 1, 2) {
+        return Err(Refusal::Terrain);
     }
-    let p = profile_at(profile);
-    check_curve(p, card)
+    check_curve(profile_at(card.profile), card)
 }
 
 // The reasons 3 to 6, of a card with the profile p.
-fn check_curve(p: Profile, card: Card) -> u32
-    ensures { result ≡ first (drop 2 (tests_by p card)) }
+fn check_curve(p: Profile, card: Card) -> Result<(), Refusal>
+    ensures { number_told refusal_number result ≡ first (drop 2 (tests_by p card)) }
 {
-    let radius = card.radius;
-    let clothoid = card.clothoid;
-    let slope = card.full_slope;
-    let widening = card.full_widening;
-    let least_radius = p.least_radius;
-    let crown = p.crown_slope;
-    if is_outside(radius, least_radius, 2000) {
-        return 3;
+    if !(p.least_radius..=2000).contains(&card.radius) {
+        return Err(Refusal::Radius);
     }
-    let found = least_length(radius);
-    let least = found.length;
-    let shortest = 1000 * least;
-    if is_outside(clothoid, shortest, 300000) {
-        return 4;
+    let shortest = 1000 * least_length(card.radius).length;
+    if !(shortest..=300000).contains(&card.clothoid) {
+        return Err(Refusal::Clothoid);
     }
-    if is_outside(slope, crown, 60) {
-        return 5;
+    if !(p.crown_slope..=60).contains(&card.full_slope) {
+        return Err(Refusal::FullSlope);
     }
-    if is_too_wide(widening, radius) {
-        return 6;
+    if is_too_wide(card.full_widening, card.radius) {
+        return Err(Refusal::Widening);
     }
-    0
+    Ok(())
 }
 
-// The reasons 34 and 35, of an absolute card with this height and grade.
-fn check_survey(height: i32, grade: i32, unit: u32) -> u32
+// The reasons 34 and 35, of a card with this datum: a relative one has no such reason.
+fn check_datum(datum: Datum, unit: u32) -> Result<(), Refusal>
     requires { (1 ≤ unit) × (unit ≤ 10) }
-    ensures { result ≡ first (tests_datum unit (Datum.Absolute height grade)) }
+    ensures { number_told refusal_number result ≡ first (tests_datum unit datum) }
 {
+    let Datum::Absolute { height, grade } = datum else {
+        return Ok(());
+    };
     if is_wrong_height(height, unit) {
-        return 34;
+        return Err(Refusal::Height);
     }
-    if is_beyond(grade, -80, 80) {
-        return 35;
+    if !(-80..=80).contains(&grade) {
+        return Err(Refusal::Grade);
     }
-    0
+    Ok(())
 }
 
-// The same of a card with any datum: a relative one has no such reason.
-fn check_datum(datum: Datum, unit: u32) -> u32
-    requires { (1 ≤ unit) × (unit ≤ 10) }
-    ensures { result ≡ first (tests_datum unit datum) }
+// The first of the reasons that come after a method's own, 9, 10, 34 and 35, where one is met.
+#[tactic(auto, unfolding(crate::specs::Reasons::refusal_after))]
+pub fn check_after(card: Card) -> Result<(), Refusal>
+    ensures { number_told refusal_number result ≡ refusal_after card }
 {
-    match datum {
-        Datum::Relative => 0,
-        Datum::Absolute { height, grade } => check_survey(height, grade, unit),
+    if !(1000..=20000).contains(&card.step) {
+        return Err(Refusal::Step);
     }
+    if is_neither(card.unit, 1, 10) {
+        return Err(Refusal::Unit);
+    }
+    check_datum(card.datum, card.unit)
 }
 
-// 0, or the number of the first of the reasons that come after a method's own: 9, 10, 34 and 35.
-pub fn check_after(card: Card) -> u32
-    ensures { result ≡ refusal_after card }
-{
-    let step = card.step;
-    let unit = card.unit;
-    if is_outside(step, 1000, 20000) {
-        return 9;
-    }
-    if is_neither(unit, 1, 10) {
-        return 10;
-    }
-    let datum = card.datum;
-    check_datum(datum, unit)
-}
-
-// 11 where a table of `room` numbers is too short for `count` rows of `width` numbers, else 0.
-pub fn check_room(width: u32, count: u32, room: usize) -> u32
-    ensures { result ≡ refusal_room width count room }
+// 11 where a table of `room` numbers is too short for `count` rows of `width` numbers.
+#[tactic(auto, unfolding(crate::specs::Reasons::refusal_room))]
+pub fn check_room(width: u32, count: u32, room: usize) -> Result<(), Refusal>
+    ensures { number_told refusal_number result ≡ refusal_room width count room }
 {
     let there = room as u64;
-    let needed = (width as u64) * (count as u64);
+    let needed = u64::from(width) * u64::from(count);
     if there < needed {
-        return 11;
+        return Err(Refusal::ShortTable);
     }
-    0
+    Ok(())
 }
 
 // How many rows stand from 0 to the end: the multiples of the step below it, and one at it. A step of 0 has none below.
 pub fn row_count(end: u32, step: u32) -> usize
     ensures { result ≡ rows_to end step }
 {
-    let far = end as usize;
-    let by = step as usize;
-    if by == 0 {
+    if step == 0 {
         return 1;
     }
-    (far + (by - 1)) / by + 1
+    end.div_ceil(step) as usize + 1
 }
 
 // The station of a row, counted from 0: its multiple of the step, or the end where that is not below it.
 pub fn station_of(end: u32, step: u32, row: u32) -> u64
     ensures { result ≡ station_to end step row }
 {
-    let far = end as u64;
-    let d = (row as u64) * (step as u64);
-    if d < far { d } else { far }
+    let d = u64::from(row) * u64::from(step);
+    d.min(u64::from(end))
 }
 
 // Where a halfway value goes: in whole millimetres to the higher number, in centimetres to the lower.
@@ -254,7 +213,8 @@ fn tie_of(unit: u64) -> Tie
     if unit == 1 { Tie::Higher } else { Tie::Lower }
 }
 
-// num / den micrometres in counts of the unit, which is in mm: the nearest, halfway as the unit has it; 0 beyond the sizes that 64 bits take.
+// num / den micrometres in counts of the unit, which is in mm: the nearest, halfway as the unit has it; 0 beyond the sizes that 64 bits take,
+// and no Option: a call that could not fail still cannot.
 pub fn in_units(num: i64, den: u64, unit: u64) -> i32
     ensures { result ≡ nearest_of (tie unit) unit num den }
 {

@@ -1,6 +1,4 @@
 // The constant tables of document 01.
-ghost use Rattle.std.specs.Prelude.{◌≡◌, max, min};
-
 use crate::Profile;
 
 // A listed radius and its least clothoid length, in metres.
@@ -155,17 +153,3 @@ pub(crate) const CLOTHOIDS: [Clothoid; 20] = [
         length: 100,
     },
 ];
-
-// The longer of two lengths.
-pub(crate) fn longer(a: u32, b: u32) -> u32
-    ensures { result ≡ max a b }
-{
-    if a < b { b } else { a }
-}
-
-// The lesser of two radii.
-pub(crate) fn lesser(a: u32, b: u32) -> u32
-    ensures { result ≡ min a b }
-{
-    if a < b { a } else { b }
-}

@@ -31,7 +31,7 @@ fn divided_down(a: i64, m: u64) -> i64
     if a < 0 { -1 - (-1 - a) / d } else { a / d }
 }
 
-// a / m rounded down, for a divisor from 1 to the greatest i64; else 0.
+// a / m rounded down, for a divisor from 1 to the greatest i64; else 0, and no Option: a call that could not fail still cannot.
 pub fn floor_div(a: i64, m: u64) -> i64
     ensures { result ≡ floor_of a m }
 {
@@ -69,7 +69,8 @@ fn divided(num: i64, den: u64, unit: u64, tie: Tie) -> i32
     count as i32
 }
 
-// The same where only the size is left to test, which is num, or -1 - num below nought: beyond reach the answer is 0.
+// The same where only the size is left to test, which is num, or -1 - num below nought: beyond reach the answer is 0. The unit's bounds are
+// asked here alone.
 fn within_reach(num: i64, size: u64, den: u64, unit: u64, tie: Tie) -> i32
     requires { (size ≡ mag num) × (den ≤ most_over) × (1 ≤ unit) × (unit ≤ 10) }
     ensures { result ≡ nearest_of (tie_of tie) unit num den }
@@ -83,7 +84,8 @@ fn within_reach(num: i64, size: u64, den: u64, unit: u64, tie: Tie) -> i32
 }
 
 // num / den micrometres in counts of the unit, which is in mm: the nearest count, and of two the one that the rule takes.
-// Beyond the sizes that 64 bits take it is 0. Each sign has its own test of the size, which is quicker than one for both.
+// Beyond the sizes that 64 bits take it is 0, and no Option: a call that could not fail still cannot. The four stay apart: a struct of them
+// would be made by each caller and taken apart here. Each sign has its own test of the size, which is quicker than one for both.
 pub fn nearest(num: i64, den: u64, unit: u64, tie: Tie) -> i32
     ensures { result ≡ nearest_of (tie_of tie) unit num den }
 {

@@ -1,36 +1,19 @@
 -- `card::profile_at` meets its contract.
 -- Assumes nothing.
-use mathlib.Core.Path.{sym, ◌∙◌}
-use Prim.Native.Nat.{◌≤◌}
-use native.Mathlib.Omega.{arith}
-use borrow.Author.Rules.{rules}
-use Rattle.card.specs.Profile.{profiles}
+use Rattle.std.proofs.Common.{◌≡◌, ◌≤◌, true, rules, sym, ◌∙◌}
+use Rattle.card.specs.Profile.{profiles, no_profile}
+use Rattle.card.specs.Words.{outside}
 use Rattle.card.proofs.Entries.{from_one, none_outside}
-use Rattle.card.proofs.Unmet.{not_outside}
 use Rattle.card.proofs.profile_at.Goals as goal
 
--- past the test, the number is one of the table's
-inside : (c : goal.Else-is_outside) → (1 ≤ c.args.number) × (c.args.number ≤ 5)
-inside c = (not_outside _ 1 5).0 (sym c.is_outside.ensures ∙ c.if-is_outside.false)
-
-pub is_outside-requires : goal.is_outside-requires
-is_outside-requires c = search rules
-
-pub returns-then-is_outside : goal.returns-then-is_outside
-returns-then-is_outside c = sym (none_outside _ (sym c.is_outside.ensures ∙ c.if-is_outside.true))
-
-pub overflow_sub-i : goal.overflow_sub-i
-overflow_sub-i c = (inside c).0
-
-pub overflow_cast-i : goal.overflow_cast-i
-overflow_cast-i c = search rules
-
-pub offset_bounds-i : goal.offset_bounds-i
-offset_bounds-i c = search rules
-
-pub bounds-i-i : goal.bounds-i-i
-bounds-i-i c = omega (arith, inside c)
+pub returns-then-not-contains : goal.returns-then-not-contains
+returns-then-not-contains c =
+    let is : outside c.args.number 1 5 ≡ true = search rules in
+    let none : c.default.result ≡ no_profile = search rules in
+    none ∙ sym (none_outside _ is)
 
 pub returns : goal.returns
 unfolding profiles
-returns c = sym (from_one _ (inside c.before).0)
+returns c =
+    let least : 1 ≤ c.args.number = search rules in
+    sym (from_one _ least)

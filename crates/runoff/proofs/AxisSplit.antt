@@ -5,15 +5,19 @@ use Prim.Native.Nat.{ℕ, ◌*◌, ◌/◌, ◌≤◌}
 use native.Mathlib.Nat.{mul-le-mul, mul-le-mul_left, div-mul-le_self, div-le_self}
 use native.Mathlib.Omega.{arith}
 use lib.IntN.{ℤ, pos, negsuc, nat_abs, ◌+ℤ◌, ◌*ℤ◌}
+use mir.Syntax.{w32, w64}
+use mir.Val.{SFits, to_z}
 use Rattle.exact.specs.Exact.{whole, ◌⊕◌, ◌≈◌}
 use Rattle.exact.specs.Rounding.{floor_div, units}
 use Rattle.exact.specs.Parts.{up, dn}
 use Rattle.exact.proofs.Integers.{add_parts, sub_parts, mul_parts, abs_parts, size_parts}
 use Rattle.exact.proofs.Is.{is_self, is_one, is_sum, is_product, is_eq}
+use Rattle.exact.proofs.Machine.{within_sfits, nat_back}
 use Rattle.exact.proofs.Splits.{rest, Rest, rest_of, whole_number}
 use Rattle.card.specs.Accepted.{Surveyed}
 use Rattle.card.specs.Datum.{signed, surveyed_axis}
 use Rattle.card.proofs.Surveys.{survey_sizes}
+use Rattle.runoff.specs.declared.survey.Axis.{Axis}
 use Rattle.runoff.specs.Reckoning.{AxisIs}
 
 -- ---- sizes
@@ -30,6 +34,12 @@ climb_most (negsuc a) m h k = omega (arith, div-mul-le_self a m, mul-le-mul_left
 base_most : (z : ℤ) (m : ℕ) → nat_abs z ≤ 9000000 → nat_abs (floor_div z m) ≤ 9000000
 base_most (pos a) m k = omega (arith, div-le_self a m)
 base_most (negsuc a) m k = omega (arith, div-le_self a m)
+
+small : (w : ℤ) → nat_abs w ≤ 100000000 → SFits w32 w
+small w h = within_sfits w32 w (omega (arith, abs_parts w))
+
+small_64 : (w : ℤ) → nat_abs w ≤ 1000000000000 → SFits w64 w
+small_64 w h = within_sfits w64 w (omega (arith, abs_parts w))
 
 -- the height h and the grade g, in units of u mm, at the station d
 module _ (h g : ℤ) (u d : ℕ) (z : Surveyed h g u × (1 ≤ u) × (u ≤ 10)) (near : d ≤ 330000) where
@@ -67,6 +77,30 @@ module _ (h g : ℤ) (u d : ℕ) (z : Surveyed h g u × (1 ≤ u) × (u ≤ 10))
   whole_units : base *ℤ pos u ≡ h
   whole_units = whole_number h u z.1 z.0.whole_units
 
+  -- ---- each number on the way fits, so it is read back as it is
+  pub d_back : to_z w64 d ≡ pos d
+  d_back = nat_back w64 d (omega (arith, near))
+
+  pub size_back : to_z w64 size ≡ pos size
+  size_back = nat_back w64 size (omega (arith, z))
+
+  pub run_fits : SFits w64 run
+  run_fits = small_64 run (omega (arith, run_few))
+
+  pub left_fits : SFits w64 left
+  left_fits = within_sfits w64 left (omega (arith, split.few, ap dn split.natural, z))
+
+  pub under_fits : SFits w64 (climb *ℤ pos size)
+  under_fits =
+      within_sfits w64 _
+      (omega (arith, split.few, ap dn split.natural, run_few, abs_parts run, sub_parts run (climb *ℤ pos size), z))
+
+  pub count_fits : SFits w32 count
+  count_fits = small count (omega (arith, count_few))
+
+  pub count_fits_64 : SFits w64 count
+  count_fits_64 = small_64 count (omega (arith, count_few))
+
   split_is : units size count ⊕ whole (up left) ≈ surveyed_axis h g (whole d)
   split_is =
       is_eq
@@ -87,11 +121,8 @@ module _ (h g : ℤ) (u d : ℕ) (z : Surveyed h g u × (1 ≤ u) × (u ≤ 10))
       ))
 
   -- as the code holds it
-  pub axis_is : (n : ℤ) (r : ℕ) → n ≡ count → r ≡ up left → AxisIs (surveyed_axis h g (whole d)) u (record { count = n; rest = r })
-  axis_is n r e f =
-      rw (e, f)
-      (record {
-        fraction = omega arith;
-        is = split_is;
-        sized = record { rest_most = omega (arith, split.few, z.2); count_most = count_few };
-      })
+  pub axis_is : (a : Axis) → a.count ≡ count → a.rest ≡ up left → a.unit ≡ u → AxisIs (surveyed_axis h g (whole d)) u a
+  axis_is a e f k = record { fraction = omega arith; is = rw (e, f, k) split_is; unit = k }
+
+  pub left_few : up left ≤ 337500
+  left_few = omega (arith, split.few, z.2)

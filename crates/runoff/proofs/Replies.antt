@@ -6,7 +6,7 @@ use Prim.Native.Nat.{ℕ, ◌*◌, ◌≤◌}
 use lib.IntN.{ℤ}
 use lib.ListN.{length, drop}
 use Rattle.card.specs.declared.Card.{Card}
-use Rattle.card.specs.declared.Reply.{Reply}
+use Rattle.card.specs.Table.{Reply}
 use Rattle.card.specs.Reasons.{refusal_room}
 use Rattle.card.specs.Table.{reply_by, table_by}
 use Rattle.card.proofs.Replies.{number_own, number_room, number-none, Answered, turned_away, accepted}

@@ -8,13 +8,12 @@ use native.Mathlib.Omega.{arith}
 use lib.IntN.{ℤ}
 use lib.ListN.{take, drop}
 use borrow.Rule.Slice.PartMut.{put_mid, Post-is}
-use Rattle.exact.specs.Exact.{whole}
+use Rattle.exact.specs.Exact.{whole, ratio, ◌⊕◌}
 use Rattle.card.specs.declared.Card.{Card}
-use Rattle.card.specs.declared.Datum.{Datum}
 use Rattle.card.specs.declared.Datum.TheVariants.{Absolute}
 use Rattle.card.specs.Accepted.{Surveyed}
-use Rattle.card.specs.Rows.{station_to, joined}
-use Rattle.card.proofs.Joined.{joined-none, next}
+use Rattle.card.specs.Rows.{in_units}
+use Rattle.card.proofs.Joined.{next}
 use Rattle.card.proofs.RowPlaces.{station_most}
 use Rattle.section.specs.Lines.{section_of, Fractions}
 use Rattle.section.proofs.EdgePieces.{on_whole}
@@ -23,7 +22,11 @@ use Rattle.runoff.specs.declared.Runoff.{Runoff}
 use Rattle.runoff.specs.Refusal.{refusal}
 use Rattle.runoff.specs.Rows.{row, cells, row_count, row_width, station_of, rows}
 use Rattle.runoff.specs.Runoff.{runoff_of}
-use Rattle.runoff.specs.Reckoning.{section_in, with_row, with_rows}
+use Rattle.runoff.specs.declared.survey.Axis.{Axis}
+use Rattle.section.specs.Datum.{axis_on}
+use Rattle.runoff.specs.Reckoning.{section_in, height_of, AxisIs, rows_on, with_row, with_rows}
+use Rattle.runoff.proofs.RowBlocks.{block, first_rows, first-none, all_rows}
+use Rattle.runoff.proofs.MovedRows.{row_is}
 use Rattle.runoff.proofs.Accepts.{unit_of, accepted}
 use Rattle.runoff.proofs.ClimbingRule.{premises}
 use Rattle.runoff.proofs.Limits.{same_section}
@@ -50,45 +53,36 @@ module _ (f : ℕ → List ℤ) (first : ℕ) where
       rw (more, here) (wrote ∙ ap (λ (l : List ℤ). with_row i l (f i)) before)
 
 -- ---- the rows of a card
-abbrev pub block : Datum → Runoff → ℕ → ℕ → ℕ → ℕ → List ℤ
-block datum r unit end step i = cells (row datum (section_in r) unit (station_to end step i))
+module _ (card : Card) where
+  -- the first i rows stand in the table, and past them what stood there
+  abbrev pub so_far : ℕ → List ℤ → List ℤ
+  so_far i old = first_rows card i ++ drop (row_width * i) old
 
--- the first i rows stand in the table, and past them what stood there
-abbrev pub so_far : Datum → Runoff → ℕ → ℕ → ℕ → ℕ → List ℤ → List ℤ
-so_far datum r unit end step i old = joined (block datum r unit end step) i ++ drop (row_width * i) old
-
-module _ (datum : Datum) (r : Runoff) (unit end step : ℕ) (old : List ℤ) where
-  pub none_written : old ≡ so_far datum r unit end step 0 old
-  none_written = sym (ap (λ (l : List ℤ). l ++ old) (joined-none (block datum r unit end step)))
+  pub none_written : (old : List ℤ) → old ≡ so_far 0 old
+  none_written old = sym (ap (λ (l : List ℤ). l ++ old) (first-none card))
 
   -- one row more, and all of them at once
-  pub next_written : (i : ℕ) → with_row i (so_far datum r unit end step i old) (block datum r unit end step i) ≡ so_far datum r unit end step (i + 1) old
-  next_written i = sym (put_is i (so_far datum r unit end step i old) (block datum r unit end step i)) ∙ next (block datum r unit end step) row_width (λ j. refl) i old
+  pub next_written : (i : ℕ) (old : List ℤ) → with_row i (so_far i old) (block card i) ≡ so_far (i + 1) old
+  next_written i old = sym (put_is i (so_far i old) (block card i)) ∙ next (block card) row_width (λ j. refl) i old
 
   pub one_written :
-      (f : ℕ → List ℤ) (i : ℕ) {table after : List ℤ} → f i ≡ block datum r unit end step i → table ≡ so_far datum r unit end step i old →
-      after ≡ with_rows f i (i + 1 - i) table → after ≡ so_far datum r unit end step (i + 1) old
+      (f : ℕ → List ℤ) (i : ℕ) (old : List ℤ) {table after : List ℤ} → f i ≡ block card i → table ≡ so_far i old →
+      after ≡ with_rows f i (i + 1 - i) table → after ≡ so_far (i + 1) old
   unfolding with_rows
-  one_written f i {table} {after} same before wrote =
+  one_written f i old {table} {after} same before wrote =
       let one : i + 1 - i ≡ 1 = omega arith in
       let here : i + 0 ≡ i = omega arith in
-      rw (one, here) at wrote ∙ ap₂ (with_row i) before same ∙ next_written i
+      rw (one, here) at wrote ∙ ap₂ (with_row i) before same ∙ next_written i old
 
-  pub all_on : (f : ℕ → List ℤ) → ((i : ℕ) → f i ≡ block datum r unit end step i) → (n : ℕ) → with_rows f 0 n old ≡ so_far datum r unit end step n old
+  pub all_on : (f : ℕ → List ℤ) (old : List ℤ) → ((i : ℕ) → f i ≡ block card i) → (n : ℕ) → with_rows f 0 n old ≡ so_far n old
   unfolding with_rows
-  all_on f same zero = none_written
-  all_on f same (suc n) =
+  all_on f old same zero = none_written old
+  all_on f old same (suc n) =
       let here : 0 + n ≡ n = omega arith in
-      rw here (ap₂ (with_row n) (all_on f same n) (same n) ∙ next_written n ∙ ap (λ (k : ℕ). so_far datum r unit end step k old) (add-one n))
+      rw here (ap₂ (with_row n) (all_on f old same n) (same n) ∙ next_written n old ∙ ap (λ (k : ℕ). so_far k old) (add-one n))
 
--- all rows, of the card's runoff and with the card's datum, are the rows of the card
-pub all_written :
-    (card : Card) {r : Runoff} {datum : Datum} → r ≡ runoff_of card → card.datum ≡ datum →
-    joined (block datum r card.unit card.clothoid card.step) (row_count card) ≡ rows card
-unfolding rows
-all_written card {datum = datum} is on =
-    ap (λ x. joined (λ (i : ℕ). cells (row datum x card.unit (station_of card i))) (row_count card)) (ap section_in is ∙ same_section card)
-    ∙ sym (ap (λ (t : Datum). joined (λ (i : ℕ). cells (row t (section_of card) card.unit (station_of card i))) (row_count card)) on)
+  pub all_written : (old : List ℤ) {n : ℕ} → n ≡ row_count card → so_far n old ≡ rows card ++ drop (row_width * row_count card) old
+  all_written old all = rw all (ap (λ (l : List ℤ). l ++ drop (row_width * row_count card) old) (all_rows card))
 
 module _ (card : Card) (passes : refusal card ≡ 0) where
   -- a row of the card is within the clothoid
@@ -101,6 +95,16 @@ module _ (card : Card) (passes : refusal card ≡ 0) where
   fractions i is =
       rw (ap section_in is ∙ same_section card)
       (proper (premises card passes) (on_whole (section_of card) (station_of card i) (station_most card.clothoid card.step i)))
+
+  -- the row on the axis where it stands, with the axis's number, is the card's row
+  pub same_row_on :
+      {r : Runoff} {a : Axis} {n : ℤ} (i : ℕ) → r ≡ runoff_of card → AxisIs (axis_on card.datum (section_in r) (whole (station_of card i))) card.unit a →
+      n ≡ in_units a.unit (height_of a ⊕ ratio 0 0 1) → rows_on a n (section_in r) card.clothoid card.step i ≡ block card i
+  same_row_on {r} {a} {n} i is stands number =
+      let d = station_of card i in
+      ap cells
+      (row_is card.datum (section_in r) d a n stands number (fractions i is)
+      ∙ ap (λ x. row card.datum x card.unit d) (ap section_in is ∙ same_section card))
 
 -- what 34 and 35 leave of an absolute card's height and grade
 pub surveyed : (card : Card) {h g : ℤ} → refusal card ≡ 0 → card.datum ≡ Absolute h g → Surveyed h g card.unit × (1 ≤ card.unit) × (card.unit ≤ 10)

@@ -6,28 +6,34 @@ use native.Mathlib.Nat.{mul-le-mul, mul-le-mul_left, mul-le-mul_right}
 use native.Mathlib.Omega.{arith}
 use Rattle.exact.specs.Exact.{whole}
 use Rattle.exact.proofs.Is.{is_one, is_as}
-use Rattle.runoff.specs.declared.Runoff.{Runoff}
 use Rattle.runoff.specs.declared.turning.Slope.{Slope}
 use Rattle.runoff.specs.declared.turning.Slopes.{Slopes}
+use Rattle.runoff.specs.declared.turning.Station.{Station}
 use Rattle.section.specs.Lines.{Section, outer_slope}
 use Rattle.runoff.specs.Reckoning.{section_in, Limits, SlopeIs, SlopesAt}
 use Rattle.section.proofs.Slopes.{even_is, first-is, second_is}
 use Rattle.section.proofs.Heights.{inner_slope_lem, shoulder_slope_lem}
 
-module _ (r : Runoff) (d : ℕ) (z : Limits r) (on : d ≤ r.clothoid) where
+module _ (t : Station) where
+  abbrev d : ℕ
+  d = t.d
+
+  abbrev z : Limits t.runoff
+  z = t.limits
+
   abbrev x : Section
-  x = section_in r
+  x = section_in t.runoff
 
   pub even_slope_lem :
       3 * x.L ≤ x.h * (x.p + x.v) →
       SlopeIs (outer_slope x (whole d)) (record { up = (x.p + x.v) * d; down = x.p * x.L; over = x.L })
-  even_slope_lem t =
+  even_slope_lem even =
       record {
-        is = is_as (even_is x (is_one d) z.long t) z.long (omega arith);
+        is = is_as (even_is x (is_one d) z.long even) z.long (omega arith);
         few = omega (arith, z.clothoid_most);
-        high = mul-le-mul {n₁ = x.p + x.v} {n₂ = 90} (omega (arith, z.crown_most, z.slope_most)) on;
+        high = mul-le-mul {n₁ = x.p + x.v} {n₂ = 90} (omega (arith, z.crown_most, z.slope_most)) t.within;
         low = mul-le-mul_right x.L z.crown_most;
-        net = omega (arith, mul-le-mul_left (x.p + x.v) on, mul-le-mul_right x.L z.slope_most);
+        net = omega (arith, mul-le-mul_left (x.p + x.v) t.within, mul-le-mul_right x.L z.slope_most);
       }
 
   module _ (two : x.h * (x.p + x.v) < 3 * x.L) where
@@ -73,44 +79,31 @@ module _ (r : Runoff) (d : ℕ) (z : Limits r) (on : d ≤ r.clothoid) where
           net = omega (arith, most);
         }
 
--- the axis is made of these two
-module _ (r : Runoff) (z : Limits r) where
-  pub shoulder_rise : r.shoulder_width * r.shoulder_slope ≤ 3750 * 60
-  shoulder_rise = mul-le-mul z.shoulder_most z.side_most
-
-  pub crown_rise : r.half_width * r.crown_slope ≤ 3750 * 30
-  crown_rise = mul-le-mul z.half_most z.crown_most
-
 -- the slopes that go with the outer one
-module _ (r : Runoff) (d : ℕ) (z : Limits r) (s : Slope) (f : SlopeIs (outer_slope (section_in r) (whole d)) s) where
-  pub crown_most : r.crown_slope * s.over ≤ 30 * s.over
-  crown_most = mul-le-mul_right s.over z.crown_most
+module _ (t : Station) (s : Slope) (f : SlopeIs (outer_slope (section_in t.runoff) (whole t.d)) s) where
+  pub crown_most : t.runoff.crown_slope * s.over ≤ 30 * s.over
+  crown_most = mul-le-mul_right s.over t.limits.crown_most
 
-  pub side_most : r.shoulder_slope * s.over ≤ 60 * s.over
-  side_most = mul-le-mul_right s.over z.side_most
+  pub side_most : t.runoff.shoulder_slope * s.over ≤ 60 * s.over
+  side_most = mul-le-mul_right s.over t.limits.side_most
 
   abbrev inner : ℕ
-  inner = max (r.crown_slope * s.over) (s.up - s.down)
+  inner = max (t.runoff.crown_slope * s.over) (s.up - s.down)
 
   abbrev slopes : Slopes
   slopes =
       record {
-        up = s.up;
-        down = s.down;
+        outer = s;
         inner = inner;
-        shoulder = max (r.shoulder_slope * s.over) inner;
-        over = s.over;
+        shoulder = max (t.runoff.shoulder_slope * s.over) inner;
       }
 
-  pub all_slopes : SlopesAt (section_in r) d slopes
+  pub all_slopes : SlopesAt (section_in t.runoff) t.d slopes
   all_slopes =
       record {
-        outer_is = f.is;
-        inner_is = inner_slope_lem (section_in r) (whole d) f.is;
-        shoulder_is = shoulder_slope_lem (section_in r) (whole d) (inner_slope_lem (section_in r) (whole d) f.is);
-        few = f.few;
-        high = f.high;
-        low = f.low;
+        outer_is = f;
+        inner_is = inner_slope_lem (section_in t.runoff) (whole t.d) f.is;
+        shoulder_is = shoulder_slope_lem (section_in t.runoff) (whole t.d) (inner_slope_lem (section_in t.runoff) (whole t.d) f.is);
         inner_high = omega (arith, crown_most, f.net);
         shoulder_high = omega (arith, crown_most, side_most, f.net);
       }

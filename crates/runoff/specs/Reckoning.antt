@@ -1,10 +1,9 @@
 -- What the private functions that reckon a row ask and promise.
 -- Assumes nothing.
-use Rattle.std.specs.Prelude.{◌≡◌, List, ◌++◌, ℕ, zero, suc, ◌+◌, ◌*◌, ◌≤◌, ◌<◌, ℤ, pos, nat_abs, take, drop}
+use Rattle.std.specs.Prelude.{◌≡◌, List, ◌++◌, ℕ, zero, suc, ◌+◌, ◌*◌, ◌≤◌, ◌<◌, ℤ, pos, take, drop}
 use Rattle.exact.specs.Exact.{Exact, whole, ◌⊕◌, ◌⊖◌, ◌⊗◌, ◌≈◌}
 use Rattle.exact.specs.Parts.{Is}
 use Rattle.exact.specs.Rounding.{units}
-use Rattle.rounding.specs.Nearest.{Sized}
 use Rattle.card.specs.Rows.{station_to, in_units}
 use Rattle.runoff.specs.declared.Runoff.{Runoff}
 use Rattle.runoff.specs.declared.turning.Slope.{Slope}
@@ -12,7 +11,7 @@ use Rattle.runoff.specs.declared.turning.Slopes.{Slopes}
 use Rattle.runoff.specs.declared.survey.Axis.{Axis}
 use Rattle.runoff.specs.declared.rows.Sides.{Sides}
 use Rattle.runoff.specs.declared.rows.Row.{Row}
-use Rattle.section.specs.Lines.{Section, axis, axis_height, outer_slope, inner_slope, shoulder_slope, widening, inner_brow, inner_edge, outer_edge, outer_brow}
+use Rattle.section.specs.Lines.{Section, axis, outer_slope, inner_slope, shoulder_slope, widening, inner_brow, inner_edge, outer_edge, outer_brow}
 use Rattle.runoff.specs.Rows.{row_width, cells}
 use Rattle.runoff.specs.Runoff.{stages_of}
 
@@ -55,72 +54,46 @@ pub record SlopeIs (x : Exact) (s : Slope) : Type 0 where
 
 -- the slopes at the station d
 pub record SlopesAt (x : Section) (d : ℕ) (s : Slopes) : Type 0 where
-  pub outer_is : Is (outer_slope x (whole d)) s.up s.down s.over
-  pub inner_is : Is (inner_slope x (whole d)) s.inner 0 s.over
-  pub shoulder_is : Is (shoulder_slope x (whole d)) s.shoulder 0 s.over
-  pub few : s.over ≤ 900000
-  pub high : s.up ≤ 90 * s.over
-  pub low : s.down ≤ 30 * s.over
-  pub inner_high : s.inner ≤ 60 * s.over
-  pub shoulder_high : s.shoulder ≤ 60 * s.over
+  pub outer_is : SlopeIs (outer_slope x (whole d)) s.outer
+  pub inner_is : Is (inner_slope x (whole d)) s.inner 0 s.outer.over
+  pub shoulder_is : Is (shoulder_slope x (whole d)) s.shoulder 0 s.outer.over
+  pub inner_high : s.inner ≤ 60 * s.outer.over
+  pub shoulder_high : s.shoulder ≤ 60 * s.outer.over
 
 -- ---- the axis as the code holds it
--- in micrometres, where a unit has u mm
-abbrev pub height_of : ℕ → Axis → Exact
-height_of u a = units (1000 * u) a.count ⊕ whole a.rest
+-- in micrometres
+abbrev pub height_of : Axis → Exact
+height_of a = units (1000 * a.unit) a.count ⊕ whole a.rest
 
--- that of a relative card
-unfoldable pub still_axis : Section → Axis
-still_axis x = record { count = pos 0; rest = axis_height x }
-
--- its rest is no higher than any relative axis, and its count leaves room in 32 bits
-pub record AxisSized (a : Axis) : Type 0 where
-  pub rest_most : a.rest ≤ 337500
-  pub count_most : nat_abs a.count ≤ 10000000
-
--- it stands at y
+-- it stands at y, and its unit has u mm
 pub record AxisIs (y : Exact) (u : ℕ) (a : Axis) : Type 0 where
   pub fraction : 0 < y.den
-  pub is : height_of u a ≈ y
-  pub sized : AxisSized a
-
--- what stands (up − down)/over above the axis can be rounded together with the axis's rest
-pub record Footed (a : Axis) (up down over u : ℕ) : Type 0 where
-  pub sized : Sized (a.rest * over + up) down over u
-  pub count_most : nat_abs a.count ≤ 10000000
+  pub is : height_of a ≈ y
+  pub unit : a.unit ≡ u
 
 -- ---- the row
--- what each height of the row is reckoned from
-pub record Ready (r : Runoff) (d : ℕ) (s : Slopes) (a : Axis) (u : ℕ) : Type 0 where
-  pub limits : Limits r
-  pub on : d ≤ r.clothoid
-  pub slopes : SlopesAt (section_in r) d s
-  pub axis : AxisSized a
-  pub unit : 1 ≤ u
-  pub units : u ≤ 10
-
 -- the line y of a section whose axis stays, with the axis at a: its distance from the axis is kept, and the sum is rounded once
-unfoldable pub count_on : ℕ → Axis → Section → Exact → ℤ
-count_on u a x y = in_units u (height_of u a ⊕ (y ⊖ axis x))
+unfoldable pub count_on : Axis → Section → Exact → ℤ
+count_on a x y = in_units a.unit (height_of a ⊕ (y ⊖ axis x))
 
--- the heights of the two sides at the station d, in units of u mm
-unfoldable pub inner_sides : Axis → Section → ℕ → ℕ → Sides
-inner_sides a x d u = record { brow = count_on u a x (inner_brow x (whole d)); edge = count_on u a x (inner_edge x (whole d)) }
+-- the heights of the two sides at the station d
+unfoldable pub inner_sides : Axis → Section → ℕ → Sides
+inner_sides a x d = record { brow = count_on a x (inner_brow x (whole d)); edge = count_on a x (inner_edge x (whole d)) }
 
-unfoldable pub outer_sides : Axis → Section → ℕ → ℕ → Sides
-outer_sides a x d u = record { brow = count_on u a x (outer_brow x (whole d)); edge = count_on u a x (outer_edge x (whole d)) }
+unfoldable pub outer_sides : Axis → Section → ℕ → Sides
+outer_sides a x d = record { brow = count_on a x (outer_brow x (whole d)); edge = count_on a x (outer_edge x (whole d)) }
 
 -- the row at the station d, where the axis is at a, and at n units
-unfoldable pub row_on : Axis → ℤ → Section → ℕ → ℕ → Row
-row_on a n x u d =
+unfoldable pub row_on : Axis → ℤ → Section → ℕ → Row
+row_on a n x d =
     record {
       station = pos d;
-      widening = in_units u (whole 1000 ⊗ widening x (whole d));
-      inner_brow = count_on u a x (inner_brow x (whole d));
-      inner_edge = count_on u a x (inner_edge x (whole d));
+      widening = in_units a.unit (whole 1000 ⊗ widening x (whole d));
+      inner_brow = count_on a x (inner_brow x (whole d));
+      inner_edge = count_on a x (inner_edge x (whole d));
       axis = n;
-      outer_edge = count_on u a x (outer_edge x (whole d));
-      outer_brow = count_on u a x (outer_brow x (whole d));
+      outer_edge = count_on a x (outer_edge x (whole d));
+      outer_brow = count_on a x (outer_brow x (whole d));
     }
 
 -- a table with the numbers of row i replaced
@@ -133,5 +106,5 @@ with_rows f first zero table = table
 with_rows f first (suc n) table = with_row (first + n) (with_rows f first n table) (f (first + n))
 
 -- the numbers of row i of a table with this step and end, where the axis is at a, and at n units
-abbrev pub rows_on : Axis → ℤ → Section → ℕ → ℕ → ℕ → ℕ → List ℤ
-rows_on a n x u end step i = cells (row_on a n x u (station_to end step i))
+abbrev pub rows_on : Axis → ℤ → Section → ℕ → ℕ → ℕ → List ℤ
+rows_on a n x end step i = cells (row_on a n x (station_to end step i))

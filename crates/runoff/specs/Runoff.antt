@@ -1,12 +1,10 @@
 -- The runoff of a card as the code holds it, with the joint as numerator and denominator.
 -- Assumes nothing.
-use Rattle.std.specs.Prelude.{◌≡◌, cond, ℕ, eqb}
+use Rattle.std.specs.Prelude.{◌≡◌, cond, ℕ, eqb, Result, Ok, Err}
 use Rattle.card.specs.declared.Card.{Card}
 use Rattle.runoff.specs.declared.Stages.{Stages}
 use Rattle.runoff.specs.declared.Stages.TheVariants.{Even, TwoStage}
 use Rattle.runoff.specs.declared.Runoff.{Runoff}
-use Rattle.runoff.specs.declared.Made.{Made}
-use Rattle.runoff.specs.declared.Made.TheVariants.{Accepted, Refused}
 use Rattle.section.specs.Lines.{Section, section_of, is_even, joint_num, joint_den}
 use Rattle.runoff.specs.Refusal.{refusal}
 
@@ -32,13 +30,13 @@ unfoldable pub runoff_of : Card → Runoff
 runoff_of card = runoff_by (section_of card)
 
 -- an accepted card's runoff; else the number of its first reason
-unfoldable pub made_of : Card → Made
-made_of card = cond (eqb (refusal card) 0) (Accepted (runoff_of card)) (Refused (refusal card))
+unfoldable pub made_of : Card → Result Runoff ℕ
+made_of card = cond (eqb (refusal card) 0) (Ok (runoff_of card)) (Err (refusal card))
 
 -- the paper's number for each case of the answer
-abbrev pub number_of : Made → ℕ
-number_of (Accepted r) = 0
-number_of (Refused n) = n
+abbrev pub number_of : Result Runoff ℕ → ℕ
+number_of (Ok r) = 0
+number_of (Err n) = n
 
 -- THEOREM (proofs/MadeNumber.antt): it is the number of the card's first reason
 abbrev pub MadeTheorem : Type 0

@@ -2,7 +2,7 @@
 -- Assumes nothing.
 use Rattle.std.specs.Prelude.{List, ℕ, ◌*◌, ℤ, length}
 use Rattle.card.specs.declared.Card.{Card}
-use Rattle.card.specs.declared.Reply.{Reply}
+use Rattle.card.specs.Table.{Reply}
 use Rattle.card.specs.Reasons.{first}
 use Rattle.card.specs.Table.{reply_by, table_by}
 use Rattle.runoff.specs.Rows.{row_count, row_width, rows}

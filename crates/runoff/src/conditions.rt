@@ -9,10 +9,8 @@ pub(crate) fn is_too_steep(p: Profile, added: u32, slope: u32, clothoid: u32) ->
     requires { (p.crown_slope ≤ slope) × (slope ≤ 60) }
     ensures { result ≡ too_steep p added slope clothoid }
 {
-    let half = p.half_width;
-    let crown = p.crown_slope;
-    let turned = crown as u64 + slope as u64;
-    let climb = (half as u64) * turned;
-    let allowed = (added as u64) * (clothoid as u64);
+    let turned = u64::from(p.crown_slope) + u64::from(slope);
+    let climb = u64::from(p.half_width) * turned;
+    let allowed = u64::from(added) * u64::from(clothoid);
     climb > allowed
 }

@@ -7,9 +7,10 @@ mod rows;
 mod survey;
 mod turning;
 
-ghost use Rattle.std.specs.Prelude.{◌≡◌, ◌≤◌, length};
+ghost use Rattle.std.specs.Prelude.{◌≡◌, ◌≤◌, length, IfOk};
 ghost use Rattle.card.specs.Profile.{profile_at};
 ghost use Rattle.card.specs.Reasons.{first, refusal_before};
+ghost use Rattle.card.specs.Told.{refusal_number, number_told, with_number, told};
 ghost use Rattle.runoff.specs.Refusal.{method_tests, refusal};
 ghost use Rattle.runoff.specs.Runoff.{stages_of, runoff_of, made_of};
 ghost use Rattle.section.specs.Lines.{section_by};
@@ -19,13 +20,14 @@ ghost use Rattle.runoff.specs.Climbing.{ClimbingTable};
 use crate::conditions::is_too_steep;
 use crate::rows::write_rows;
 use card::{
-    Card, Profile, Reply, added_slope, check_after, check_before, check_room, profile_at, row_count,
+    Card, Profile, Refusal, added_slope, check_after, check_before, check_room, profile_at,
+    row_count,
 };
 
 // How many numbers a row has in a table.
 pub const ROW_WIDTH: usize = 7;
 
-// How the outer slope turns: evenly, or in two stages whose joint is at num / den mm.
+// How the outer slope turns: evenly, or in two stages whose joint is at num / den mm. Document 01 asks for this enum.
 #[derive(Clone, Copy)]
 pub enum Stages {
     Even,
@@ -46,43 +48,26 @@ pub struct Runoff {
     pub clothoid: u64,
 }
 
-// What a card is made into: its runoff, or the number of the reason that refuses it.
-#[derive(Clone, Copy)]
-pub enum Made {
-    Accepted(Runoff),
-    Refused(u32),
-}
-
-// 0 for an accepted card, else the number of the first of its own reasons: 1 to 6, 8, 9, 10, 34 or 35.
-pub fn check_card(card: Card) -> u32
-    ensures { result ≡ refusal card }
+// The first of a card's own reasons, 1 to 6, 8, 9, 10, 34 or 35, where one is met.
+pub fn check_card(card: Card) -> Result<(), Refusal>
+    ensures { number_told refusal_number result ≡ refusal card }
 {
-    let before = check_before(card);
-    if before != 0 {
-        return before;
-    }
-    let own = check_section(card);
-    if own != 0 {
-        return own;
-    }
+    check_before(card)?;
+    check_section(card)?;
     check_after(card)
 }
 
 // The reason 8, of a card that those before let pass.
-fn check_section(card: Card) -> u32
+fn check_section(card: Card) -> Result<(), Refusal>
     requires { refusal_before card ≡ 0 }
-    ensures { result ≡ first (method_tests (profile_at card.profile) card) }
+    ensures { number_told refusal_number result ≡ first (method_tests (profile_at card.profile) card) }
 {
-    let profile = card.profile;
-    let terrain = card.terrain;
-    let clothoid = card.clothoid;
-    let slope = card.full_slope;
-    let p = profile_at(profile);
-    let added = added_slope(p, terrain);
-    if is_too_steep(p, added, slope, clothoid) {
-        return 8;
+    let p = profile_at(card.profile);
+    let added = added_slope(p, card.terrain);
+    if is_too_steep(p, added, card.full_slope, card.clothoid) {
+        return Err(Refusal::AddedSlope);
     }
-    0
+    Ok(())
 }
 
 // Even when h × (p + v) is at least 3 × L, else two-stage with the joint at 2 × h × p / 3.
@@ -90,11 +75,10 @@ fn stages_of(p: Profile, card: Card) -> Stages
     requires { (p.half_width ≤ 3750) × (p.crown_slope ≤ 30) × (card.full_slope ≤ 60) }
     ensures { result ≡ stages_of (section_by p card) }
 {
-    let half = p.half_width as u64;
-    let crown = p.crown_slope as u64;
-    let slope = card.full_slope as u64;
-    let clothoid = card.clothoid as u64;
-    let climb = half * (crown + slope);
+    let half = u64::from(p.half_width);
+    let crown = u64::from(p.crown_slope);
+    let clothoid = u64::from(card.clothoid);
+    let climb = half * (crown + u64::from(card.full_slope));
     let floor = 3 * clothoid;
     if climb >= floor {
         return Stages::Even;
@@ -104,70 +88,45 @@ fn stages_of(p: Profile, card: Card) -> Stages
 }
 
 // The runoff of an accepted card: whether it is even or two-stage is decided once.
+#[tactic(auto, unfolding(crate::specs::Runoff::runoff_of))]
 fn runoff_of(card: Card) -> Runoff
     requires { refusal card ≡ 0 }
     ensures { result ≡ runoff_of card }
 {
-    let profile = card.profile;
-    let p = profile_at(profile);
-    let half_width = p.half_width as u64;
-    let shoulder_width = p.shoulder_width as u64;
-    let least_shoulder = p.least_shoulder as u64;
-    let crown_slope = p.crown_slope as u64;
-    let shoulder_slope = p.shoulder_slope as u64;
-    let full_slope = card.full_slope as u64;
-    let full_widening = card.full_widening as u64;
-    let clothoid = card.clothoid as u64;
-    let stages = stages_of(p, card);
+    let p = profile_at(card.profile);
     Runoff {
-        stages,
-        half_width,
-        shoulder_width,
-        least_shoulder,
-        crown_slope,
-        shoulder_slope,
-        full_slope,
-        full_widening,
-        clothoid,
+        stages: stages_of(p, card),
+        half_width: u64::from(p.half_width),
+        shoulder_width: u64::from(p.shoulder_width),
+        least_shoulder: u64::from(p.least_shoulder),
+        crown_slope: u64::from(p.crown_slope),
+        shoulder_slope: u64::from(p.shoulder_slope),
+        full_slope: u64::from(card.full_slope),
+        full_widening: u64::from(card.full_widening),
+        clothoid: u64::from(card.clothoid),
     }
 }
 
-// The runoff of an accepted card, or the number that refuses it.
-pub fn make_runoff(card: Card) -> Made
-    ensures { result ≡ made_of card }
+// The runoff of an accepted card, or the reason that refuses it.
+#[tactic(auto, using(crate::proofs::MadeNumber::accepts, crate::proofs::MadeNumber::refuses))]
+pub fn make_runoff(card: Card) -> Result<Runoff, Refusal>
+    ensures { with_number refusal_number result ≡ made_of card }
 {
-    let number = check_card(card);
-    if number != 0 {
-        return Made::Refused(number);
-    }
-    let runoff = runoff_of(card);
-    Made::Accepted(runoff)
+    check_card(card)?;
+    Ok(runoff_of(card))
 }
 
 // Fills the lent table with the card's rows and says how many; or leaves it as it is and says why.
-pub fn fill_table(card: Card, table: &mut [i32]) -> Reply
-    ensures value { result ≡ reply_to card (length table.old) }
+pub fn fill_table(card: Card, table: &mut [i32]) -> Result<u32, Refusal>
+    ensures value { told refusal_number result ≡ reply_to card (length table.old) }
     ensures table_after { table.new ≡ table_after card table.old }
-    ensures climbing_table { result.number ≡ 0 → ClimbingTable card result.count table.new }
+    ensures climbing_table { IfOk result (λ count. ClimbingTable card count table.new) }
 {
-    let number = check_card(card);
-    if number != 0 {
-        return Reply { number, count: 0 };
-    }
-    let clothoid = card.clothoid;
-    let step = card.step;
-    let rows = row_count(clothoid, step);
+    let r = make_runoff(card)?;
+    let rows = row_count(card.clothoid, card.step);
     let count = rows as u32;
-    let r = runoff_of(card);
     let room = table.len();
-    let width = ROW_WIDTH as u32;
-    let short = check_room(width, count, room);
-    if short != 0 {
-        return Reply {
-            number: short,
-            count: 0,
-        };
-    }
+    check_room(ROW_WIDTH as u32, count, room)?;
     write_rows(card, r, rows, table);
-    Reply { number: 0, count }
+    Ok(count)
 }

@@ -14,111 +14,99 @@ pub(crate) struct Slope {
     pub over: u64,
 }
 
-// What the heights at a station are reckoned from: the slopes over one denominator, of which the outer one is up - down.
+// What the heights at a station are reckoned from: the outer slope, and those of the inner lane and of its shoulder over the same denominator.
 #[derive(Clone, Copy)]
 pub(crate) struct Slopes {
-    pub up: u64,
-    pub down: u64,
+    pub outer: Slope,
     pub inner: u64,
     pub shoulder: u64,
-    pub over: u64,
+}
+
+// A station of a runoff, d mm from its start.
+#[derive(Clone, Copy)]
+pub(crate) struct Station {
+    pub runoff: Runoff,
+    pub d: u64,
+    ghost limits: { Limits runoff },
+    ghost within: { d ≤ runoff.clothoid },
 }
 
 // The greater of least and up - down, which may be below nought.
 pub(crate) fn at_least(least: u64, up: u64, down: u64) -> u64
     ensures { result ≡ max least (up - down) }
 {
-    if up < down {
-        return least;
-    }
-    let rest = up - down;
-    if least < rest { rest } else { least }
+    up.saturating_sub(down).max(least)
 }
 
-// In a straight line from -p at 0 to v at L.
-fn even_slope(r: Runoff, d: u64) -> Slope
-    requires limits { Limits r × (d ≤ r.clothoid) }
-    requires clothoid_bound { 3 * r.clothoid ≤ r.half_width * (r.crown_slope + r.full_slope) }
-    ensures { SlopeIs (outer_slope (section_in r) (whole d)) result }
-{
-    let p = r.crown_slope;
-    let v = r.full_slope;
-    let l = r.clothoid;
-    let up = (p + v) * d;
-    let down = p * l;
-    Slope { up, down, over: l }
-}
-
-// The outer edge climbs at 3 per mille.
-fn first_slope(r: Runoff, d: u64) -> Slope
-    requires limits { Limits r × (d ≤ r.clothoid) }
-    requires full_slope_bound { (r.half_width * (r.crown_slope + r.full_slope) < 3 * r.clothoid) × (3 * d ≤ 2 * r.half_width * r.crown_slope) }
-    ensures { SlopeIs (outer_slope (section_in r) (whole d)) result }
-{
-    let p = r.crown_slope;
-    let h = r.half_width;
-    let up = 3 * d;
-    let down = p * h;
-    Slope { up, down, over: h }
-}
-
-// In a straight line from p at the joint, num / den, to v at L.
-fn second_slope(r: Runoff, num: u64, den: u64, d: u64) -> Slope
-    requires limits { Limits r × (d ≤ r.clothoid) }
-    requires full_slope_bound { (r.half_width * (r.crown_slope + r.full_slope) < 3 * r.clothoid) × (2 * r.half_width * r.crown_slope < 3 * d) }
-    requires num_value { (num ≡ 2 * r.half_width * r.crown_slope) × (den ≡ 3) }
-    ensures { SlopeIs (outer_slope (section_in r) (whole d)) result }
-{
-    let p = r.crown_slope;
-    let v = r.full_slope;
-    let l = r.clothoid;
-    let run = den * l - num;
-    let past = den * d - num;
-    let turned = v - p;
-    let up = p * run + turned * past;
-    Slope {
-        up,
-        down: 0,
-        over: run,
-    }
-}
-
-// The outer slope at the station d. The joint is compared as a fraction and never rounded.
-fn slope_at(r: Runoff, d: u64) -> Slope
-    requires { Limits r × (d ≤ r.clothoid) }
-    ensures { SlopeIs (outer_slope (section_in r) (whole d)) result }
-{
-    let k = r.stages;
-    match k {
-        Stages::Even => even_slope(r, d),
-        Stages::TwoStage { num, den } => {
-            if den * d <= num {
-                first_slope(r, d)
-            } else {
-                second_slope(r, num, den, d)
-            }
+impl Station {
+    // In a straight line from -p at 0 to v at L.
+    fn even_slope(self) -> Slope
+        requires { 3 * self.runoff.clothoid ≤ self.runoff.half_width * (self.runoff.crown_slope + self.runoff.full_slope) }
+        ensures { SlopeIs (outer_slope (section_in self.runoff) (whole self.d)) result }
+    {
+        let r = self.runoff;
+        Slope {
+            up: (r.crown_slope + r.full_slope) * self.d,
+            down: r.crown_slope * r.clothoid,
+            over: r.clothoid,
         }
     }
-}
 
-// Every slope at the station d: the inner lane is not turned before the outer slope is p, nor the shoulder before it is q.
-pub(crate) fn slopes_at(r: Runoff, d: u64) -> Slopes
-    requires { Limits r × (d ≤ r.clothoid) }
-    ensures { SlopesAt (section_in r) d result }
-{
-    let p = r.crown_slope;
-    let q = r.shoulder_slope;
-    let s = slope_at(r, d);
-    let up = s.up;
-    let down = s.down;
-    let over = s.over;
-    let inner = at_least(p * over, up, down);
-    let shoulder = at_least(q * over, inner, 0);
-    Slopes {
-        up,
-        down,
-        inner,
-        shoulder,
-        over,
+    // The outer edge climbs at 3 per mille.
+    fn first_slope(self) -> Slope
+        requires two_stage { self.runoff.half_width * (self.runoff.crown_slope + self.runoff.full_slope) < 3 * self.runoff.clothoid }
+        requires first { 3 * self.d ≤ 2 * self.runoff.half_width * self.runoff.crown_slope }
+        ensures { SlopeIs (outer_slope (section_in self.runoff) (whole self.d)) result }
+    {
+        let r = self.runoff;
+        Slope {
+            up: 3 * self.d,
+            down: r.crown_slope * r.half_width,
+            over: r.half_width,
+        }
+    }
+
+    // In a straight line from p at the joint, num / den, to v at L.
+    fn second_slope(self, num: u64, den: u64) -> Slope
+        requires two_stage { self.runoff.half_width * (self.runoff.crown_slope + self.runoff.full_slope) < 3 * self.runoff.clothoid }
+        requires second { 2 * self.runoff.half_width * self.runoff.crown_slope < 3 * self.d }
+        requires joint { (num ≡ 2 * self.runoff.half_width * self.runoff.crown_slope) × (den ≡ 3) }
+        ensures { SlopeIs (outer_slope (section_in self.runoff) (whole self.d)) result }
+    {
+        let r = self.runoff;
+        let run = den * r.clothoid - num;
+        let past = den * self.d - num;
+        let turned = r.full_slope - r.crown_slope;
+        Slope {
+            up: r.crown_slope * run + turned * past,
+            down: 0,
+            over: run,
+        }
+    }
+
+    // The outer slope. The joint is compared as a fraction and never rounded.
+    fn outer_slope(self) -> Slope
+        ensures { SlopeIs (outer_slope (section_in self.runoff) (whole self.d)) result }
+    {
+        match self.runoff.stages {
+            Stages::Even => self.even_slope(),
+            Stages::TwoStage { num, den } if den * self.d <= num => self.first_slope(),
+            Stages::TwoStage { num, den } => self.second_slope(num, den),
+        }
+    }
+
+    // Every slope: the inner lane is not turned before the outer slope is p, nor the shoulder before it is q.
+    pub(crate) fn slopes(self) -> Slopes
+        ensures { SlopesAt (section_in self.runoff) self.d result }
+    {
+        let r = self.runoff;
+        let outer = self.outer_slope();
+        let inner = at_least(r.crown_slope * outer.over, outer.up, outer.down);
+        let shoulder = at_least(r.shoulder_slope * outer.over, inner, 0);
+        Slopes {
+            outer,
+            inner,
+            shoulder,
+        }
     }
 }

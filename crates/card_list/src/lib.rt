@@ -2,6 +2,7 @@
 #![tactic(auto)]
 
 ghost use Rattle.std.specs.Prelude.{◌≡◌, ◌<◌};
+ghost use Rattle.card.specs.declared.Card.{Card};
 ghost use Rattle.card_list.specs.List.{number_of, counted, datum_from, card_from, card_of, card_in, name_place_of, name_place_in};
 
 use card::{Card, Datum};
@@ -16,25 +17,23 @@ pub struct NamePlace {
     pub size: u32,
 }
 
-// A number of the list, and 0 past its end.
+// A number of the list, and 0 past its end, as the definition reads it: no Option, which each of its callers would turn into 0.
 fn number_at(list: &[i32], place: usize) -> i32
     ensures { result ≡ number_of list.now place }
 {
-    if place < list.len() { list[place] } else { 0 }
+    list.get(place).copied().unwrap_or(0)
 }
 
 // One of the card's eight numbers at a place of the list; below 0 it counts as the greatest, which every reason refuses.
 fn count_at(list: &[i32], place: usize) -> u32
     ensures { result ≡ counted (number_of list.now place) }
 {
-    let number = number_at(list, place);
-    if number < 0 {
-        return 4294967295;
-    }
-    number as u32
+    u32::try_from(number_at(list, place)).unwrap_or(u32::MAX)
 }
 
-// What the heights of a card count from, by the mark, the height and the grade from a place on: relative where the mark is 0.
+// What the heights of a card count from, by the mark, a number as C lends it, the height and the grade from a place on: relative where the
+// mark is 0.
+#[tactic(auto, unfolding(crate::specs::List::datum_from))]
 fn datum_at(list: &[i32], at: usize) -> Datum
     requires { at < 70000000000 }
     ensures { result ≡ datum_from list.now at }
@@ -49,6 +48,7 @@ fn datum_at(list: &[i32], at: usize) -> Datum
 }
 
 // The card whose eleven numbers stand in a list from a place on.
+#[tactic(auto, unfolding(crate::specs::List::card_from))]
 fn card_from(list: &[i32], at: usize) -> Card
     requires { at < 60000000000 }
     ensures { result ≡ card_from list.now at }
@@ -67,6 +67,31 @@ fn card_from(list: &[i32], at: usize) -> Card
     }
 }
 
+// What stands for a card in a list of cards.
+pub trait AsCard: Copy {
+    ghost as_card: { Self → Card };
+
+    fn card(self) -> Card
+        ensures { result ≡ as_card self };
+}
+
+impl AsCard for Card {
+    ghost as_card = { λ card. card };
+
+    fn card(self) -> Card {
+        self
+    }
+}
+
+// A card's eleven numbers.
+impl AsCard for [i32; 11] {
+    ghost as_card = { card_of };
+
+    fn card(self) -> Card {
+        card_of_numbers(&self)
+    }
+}
+
 // The card with these eleven numbers: the eight in the order of the paper, the mark, height and grade.
 pub fn card_of_numbers(numbers: &[i32; 11]) -> Card
     ensures { result ≡ card_of numbers.now }
@@ -81,23 +106,18 @@ pub fn card_of_curve(list: &[i32], curve: u32) -> Card
     card_from(list, CURVE_WIDTH * (curve as usize) + 2)
 }
 
-// A name's place and size; none of its bytes where one of the two is below 0.
+// A name's place and size; none of its bytes where one of the two is below 0, and not None: a call that could not fail still cannot.
 fn name_place(place: i32, size: i32) -> NamePlace
     ensures { result ≡ name_place_of place size }
 {
-    if place < 0 {
-        return NamePlace { place: 0, size: 0 };
-    }
-    if size < 0 {
-        return NamePlace { place: 0, size: 0 };
-    }
-    NamePlace {
-        place: place as u32,
-        size: size as u32,
+    match (u32::try_from(place), u32::try_from(size)) {
+        (Ok(place), Ok(size)) => NamePlace { place, size },
+        _ => NamePlace { place: 0, size: 0 },
     }
 }
 
 // Where the name of a curve in the list, counted from 0, stands in the text.
+#[tactic(auto, unfolding(crate::specs::List::name_place_in))]
 pub fn name_of_curve(list: &[i32], curve: u32) -> NamePlace
     ensures { result ≡ name_place_in list.now curve }
 {

@@ -10,27 +10,48 @@ use native.Mathlib.Numerals.{add-one}
 use native.Mathlib.Omega.{arith}
 use lib.Dec.{eqb}
 use lib.IntN.{ℤ}
-use lib.ListN.{length, take, drop, get_or, set, length-drop, length-set, length-map, take-append-drop, get_or-map}
+use lib.ListN.{length, take, drop, get_or, set, length-drop, length-set, take-append-drop}
 use lib.Seq.{take-length, length-take-le, drop-cons, drop-length, get_or-take, take-append-add, drop-append-add, take-suc-set, drop-set-lt}
-use borrow.Author.Tests.{eqb-true}
+use borrow.Author.Tests.{eqb-true, ne_eqb}
 use Rattle.card.specs.declared.Card.{Card}
-use Rattle.card.specs.declared.Reply.{Reply}
+use Rattle.card.specs.Table.{Reply}
+use Rattle.std.specs.Prelude.{Ok, Err}
 use Rattle.card.specs.Table.{reply_by}
-use Rattle.card_list.specs.List.{card_of, cards_of}
+use Rattle.card.specs.Told.{told}
+use Rattle.day.specs.declared.DayRefusal.{DayRefusal}
+use Rattle.day.specs.declared.DayRefusal.TheVariants.{ManyCards, ShortReplies}
+use Rattle.day.specs.Told.{day_refusal_number}
 use Rattle.runoff.specs.Table.{reply_to, table_after}
-use Rattle.day.specs.Day.{reply_width, day_number, day_reply, used_by, table_of, replies_of, day_table, day_replies}
+use Rattle.day.specs.Day.{most_cards, reply_width, day_number, day_reply, used_by, table_of, replies_of, day_table, day_replies}
 use Rattle.day.specs.Parts.{ClimbingDay}
 use Rattle.day.specs.Reckoning.{Fits, Step}
 use Rattle.day.proofs.SingleCall.{uses_within, same_rest}
-use Rattle.day.proofs.DayNumbers.{room_for_replies}
-use Rattle.day.proofs.DayParts.{climbing_day_lem}
+use Rattle.day.proofs.DayNumbers.{numbers_rule, room_for_replies}
+use Rattle.day.proofs.DayParts.{refused_left, climbing_day_lem}
 
--- ---- cards as plain numbers
-pub cards_long : (bodies : List (List ℤ)) → length (cards_of bodies) ≡ length bodies
-cards_long bodies = length-map bodies card_of
+not_nought : (e : DayRefusal) → day_refusal_number e ≡ 0 → ⊥
+not_nought ManyCards is = absurd (omega arith)
+not_nought ShortReplies is = absurd (omega arith)
 
-pub card_at : (bodies : List (List ℤ)) (i : ℕ) → get_or (cards_of bodies) i (card_of []) ≡ card_of (get_or bodies i [])
-card_at bodies i = get_or-map card_of bodies i []
+-- ---- the reply of a call, by the answer of its check
+pub refused_reply : (count room : ℕ) (e : DayRefusal) → day_refusal_number e ≡ day_number count room → told day_refusal_number (Err e) ≡ day_reply count room
+unfolding day_reply reply_by
+refused_reply count room e is = rw (← is, ne_eqb _ 0 (not_nought e))
+
+pub accepted_reply : (count room : ℕ) → 0 ≡ day_number count room → told day_refusal_number (Ok count) ≡ day_reply count room
+unfolding day_reply reply_by
+accepted_reply count room is = rw (← is)
+
+pub refused_both :
+    (cs : List Card) (ts : List ℤ) (rs : List ℕ) (e : DayRefusal) → day_refusal_number e ≡ day_number (length cs) (length rs) →
+    (day_table cs ts rs ≡ ts) × (day_replies cs ts rs ≡ rs)
+refused_both cs ts rs e is =
+    refused_left cs ts rs (λ z. not_nought e (ap (λ (r : Reply). r.number) (refused_reply (length cs) (length rs) e is) ∙ z))
+
+-- an accepted call has at most 64 cards
+pub few_cards : (count room : ℕ) → 0 ≡ day_number count room → count ≤ most_cards
+few_cards count room is =
+    ((numbers_rule count room).right.0 (sym (ap (λ (r : Reply). r.number) (accepted_reply count room is)))).0
 
 -- ---- the cards that are taken: all of them, or on a refusal none
 taken_by : (b : Bool) (count room : ℕ) → (b ≡ true → reply_width * count ≤ room) → (cond b count 0 ≤ count) × (reply_width * cond b count 0 ≤ room)

@@ -12,7 +12,7 @@ use lib.ListN.{length, take, drop, length-append, length-drop}
 use lib.Seq.{drop_at, get_or-take, length-take-le}
 use borrow.Author.Tests.{eqb-true, eqb-false}
 use Rattle.card.specs.declared.Card.{Card}
-use Rattle.card.specs.declared.Reply.{Reply}
+use Rattle.card.specs.Table.{Reply}
 use Rattle.card.specs.Reasons.{refusal_room}
 use Rattle.card.proofs.Tests.{room_held}
 use Rattle.runoff.specs.Rows.{row_width, row_count, rows}

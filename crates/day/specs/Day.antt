@@ -2,7 +2,7 @@
 -- Assumes nothing.
 use Rattle.std.specs.Prelude.{cond, List, [], ◌∷◌, ◌++◌, ℕ, ◌*◌, ◌-◌, eqb, ℤ, length, take, drop}
 use Rattle.card.specs.declared.Card.{Card}
-use Rattle.card.specs.declared.Reply.{Reply}
+use Rattle.card.specs.Table.{Reply}
 use Rattle.card.specs.Words.{◌below◌, ◌above◌}
 use Rattle.card.specs.Reasons.{Test, test, first}
 use Rattle.card.specs.Table.{reply_by}

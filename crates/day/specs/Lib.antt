@@ -3,3 +3,4 @@ pub mod Parts
 pub mod Numbers
 pub mod Readings
 pub mod Reckoning
+pub mod Told

@@ -2,7 +2,7 @@
 -- Assumes nothing.
 use Rattle.std.specs.Prelude.{◌≡◌, List, [], ◌∷◌, ◌++◌, ℕ, ℤ, pos, length, replicate}
 use Rattle.card.specs.declared.Card.{Card}
-use Rattle.card.specs.declared.Reply.{Reply}
+use Rattle.card.specs.Table.{Reply}
 use Rattle.card.specs.Card.{card, absolute_card, ramp}
 use Rattle.runoff.specs.Rows.{rows}
 use Rattle.runoff.specs.AbsoluteReadings.{falling_ramp}

@@ -1,12 +1,9 @@
--- The invariants and measures of `day::fill_day`.
+-- The invariant of the loop of `day::fill_day`: the cards before this one are done.
 -- Assumes nothing.
-use Prim.Native.Nat.{◌-◌}
+use Rattle.std.proofs.Common.{map, length}
 use Rattle.day.proofs.DayLoop.{Turn}
 use Rattle.day.proofs.fill_day.Given as goal
 
 abbrev pub invariant-loop-i : goal.invariant-loop-i
-invariant-loop-i l =
-    Turn l.cards l.initial.table l.initial.replies l.todo l.i l.used l.table l.replies
-
-abbrev pub decreases-loop-i : goal.decreases-loop-i
-decreases-loop-i l = l.todo - l.i
+invariant-loop-i g l =
+    Turn (map g.C.AsCard.as_card l.cards) l.initial.table l.initial.replies (length (map g.C.AsCard.as_card l.cards)) l.i l.used l.table l.replies

@@ -1,49 +1,51 @@
--- Bytes put where there is room are stored; without room nothing changes.
+-- A text put where there is room is written; without room nothing changes.
 -- Assumes nothing.
-use Prim.Native.Nat.{ℕ, ◌+◌, ◌≤◌, ◌<◌}
-use mathlib.Core.Path.{◌≡◌, sym, ap, ◌∙◌}
-use mathlib.Core.Bool.{Bool, true, false}
-use mathlib.Core.List.{List}
-use lib.Dec.{leb}
-use lib.ListN.{length}
-use lib.Seq.{sets, sets-eq}
-use borrow.Author.Tests.{le-leb, lt-leb, leb-true, leb-false}
+use Prim.Native.Nat.{ℕ, ◌+◌, ◌-◌, ◌≤◌, ◌<◌}
+use mathlib.Core.Path.{◌≡◌, refl, sym, ap, ◌∙◌}
+use mathlib.Core.List.{List, ◌++◌}
+use native.Mathlib.Omega.{arith}
+use lib.ListN.{length, take, drop}
+use lib.Seq.{sets, sets-eq, take_all}
+use borrow.Rule.Slice.PartMut.{put_mid, mid_of, mid_len}
+use borrow.Author.Tests.{le-leb, lt-leb}
+use Rattle.std.proofs.lemmas.Slice.{put_mid-paste}
 use Rattle.decimal.specs.Put.{put_at, after_put}
-use Rattle.decimal.proofs.Stores.{Stored}
+use Rattle.decimal.specs.Places.{Puts, HasRoom, Wrote}
+use Rattle.decimal.specs.declared.Place.{Place}
 
--- what a call that puts bytes answers, and the buffer afterwards
-abbrev pub Puts : ℕ → List ℕ → List ℕ → ℕ → List ℕ → Type 0
-Puts at bytes buffer next after = (next ≡ after_put at bytes (length buffer)) × (after ≡ put_at at bytes buffer)
-
-module _ (at : ℕ) (bytes buffer : List ℕ) where
-  module _ (room : at + length bytes ≤ length buffer) where
-    place_behind : after_put at bytes (length buffer) ≡ at + length bytes
+module _ (at : ℕ) (text buffer : List ℕ) where
+  module _ (room : at + length text ≤ length buffer) where
+    place_behind : after_put at text (length buffer) ≡ at + length text
     unfolding after_put
     place_behind = rw (le-leb _ _ room)
 
-    put_sets : put_at at bytes buffer ≡ sets buffer at bytes
+    put_sets : put_at at text buffer ≡ sets buffer at text
     unfolding put_at
-    put_sets = rw (le-leb _ _ room, sets-eq bytes buffer at room)
+    put_sets = rw (le-leb _ _ room, sets-eq text buffer at room)
 
-    -- with room, what is stored is put, and what is put is stored
-    pub puts_stored : {next : ℕ} {after : List ℕ} → Stored buffer at bytes after next → Puts at bytes buffer next after
-    puts_stored s = (s.0 ∙ sym place_behind, s.1 ∙ sym put_sets)
+    -- what is stored is put
+    pub stored_put : {next : ℕ} {after : List ℕ} → next ≡ at + length text → after ≡ sets buffer at text
+        → (next ≡ after_put at text (length buffer)) × (after ≡ put_at at text buffer)
+    stored_put n m = (n ∙ sym place_behind, m ∙ sym put_sets)
 
-    pub stored_puts : {next : ℕ} {after : List ℕ} → Puts at bytes buffer next after → Stored buffer at bytes after next
-    stored_puts p = (p.0 ∙ place_behind, p.1 ∙ put_sets)
+    -- a part of the text's size, written over
+    pub put_part : {size : ℕ} {part : List ℕ} → size ≡ length text → (length (mid_of at (at + size - at) buffer) ≡ length text → part ≡ text)
+        → (at + size ≡ after_put at text (length buffer)) × (put_mid at (at + size - at) buffer part ≡ put_at at text buffer)
+    unfolding put_at
+    put_part {size} {part} s written =
+        let n = mid_len at (at + size) buffer (omega arith) in (
+          ap (λ (k : ℕ). at + k) s ∙ sym place_behind,
+          put_mid-paste at (at + size - at) buffer part text (length text) (written (n ∙ omega arith)) (omega arith) refl
+              ∙ ap (λ (p : List ℕ). take at buffer ++ p ++ drop (at + length text) buffer) (take_all (length text) text (omega arith))
+              ∙ sym (simp (le-leb _ _ room) refl),
+        )
 
   -- without room
-  puts_none : length buffer < at + length bytes → Puts at bytes buffer at buffer
+  pub put_none : length buffer < at + length text → (at ≡ after_put at text (length buffer)) × (buffer ≡ put_at at text buffer)
   unfolding after_put put_at
-  puts_none h = (rw (lt-leb _ _ h), rw (lt-leb _ _ h))
+  put_none h = (rw (lt-leb _ _ h), rw (lt-leb _ _ h))
 
-  -- the test of the room, by the size of the bytes
-  module _ {size : ℕ} {fits : Bool} (counted : size ≡ length bytes) (test : fits ≡ leb (at + size) (length buffer)) where
-    test_is : fits ≡ leb (at + length bytes) (length buffer)
-    test_is = test ∙ ap (λ (k : ℕ). leb (at + k) (length buffer)) counted
-
-    pub room_told : fits ≡ true → at + length bytes ≤ length buffer
-    room_told t = leb-true _ _ (sym test_is ∙ t)
-
-    pub puts_nothing : fits ≡ false → Puts at bytes buffer at buffer
-    puts_nothing t = puts_none (leb-false _ _ (sym test_is ∙ t))
+-- with room, what is put is written
+pub puts_wrote : (before after : Place) (text : List ℕ) → HasRoom before text → Puts before after text → Wrote before after text
+puts_wrote before after text room p =
+    (p.0 ∙ place_behind before.at text before.buffer.now room, p.1 ∙ put_sets before.at text before.buffer.now room, p.2)

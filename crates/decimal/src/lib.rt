@@ -1,96 +1,132 @@
 // The decimal text of counts and of signed numbers, and bytes put into a lent buffer: all of a text from a place on, or nothing.
 #![tactic(auto)]
 
-mod write;
-
-ghost use Rattle.std.specs.Prelude.{◌≡◌, [], ◌∷◌, ◌++◌, ◌+◌, ◌≤◌, leb, length};
+ghost use Rattle.std.specs.Prelude.{◌≡◌, ◌≢◌, ℕ, List, [], ◌∷◌, ◌++◌, ◌+◌, ◌≤◌, length};
 ghost use Rattle.decimal.specs.Decimal.{most_digits, count_text, signed_text};
 ghost use Rattle.decimal.specs.Put.{put_at, after_put};
+ghost use Rattle.decimal.specs.Places.{Puts};
 
-use crate::write::{magnitude, write_bytes, write_count, write_signed};
+// What has a text: bytes, a count, a signed number.
+pub trait Text: Copy {
+    ghost text: { Self → List ℕ };
 
-// How many digits a count has.
-pub fn digit_count(v: u32) -> usize
-    ensures value { result ≡ length (count_text v) }
-    ensures upper_bound { result ≤ most_digits }
-{
-    let mut digits: usize = 1;
-    let mut rest = v / 10;
-    while rest > 0 {
-        digits += 1;
-        rest = rest / 10;
-    }
-    digits
+    // How many bytes the text has.
+    fn size(self) -> usize
+        ensures value { result ≡ length (text self) };
+
+    // Writes the text over a part of its size; a part of another size stays as it was.
+    fn write(self, part: &mut [u8])
+        ensures whole { length part.old ≡ length (text self) → part.new ≡ text self }
+        ensures kept { length part.old ≢ length (text self) → part.new ≡ part.old };
 }
 
-// How many bytes the text of a signed number has.
-pub fn signed_size(z: i32) -> usize
-    ensures value { result ≡ length (signed_text z) }
-    ensures upper_bound { result ≤ most_digits + 1 }
-{
-    let digits = digit_count(magnitude(z));
-    if z < 0 { digits + 1 } else { digits }
+impl Text for &[u8] {
+    ghost text = { λ bytes. bytes.now };
+
+    fn size(self) -> usize {
+        self.len()
+    }
+
+    // Byte by byte: `copy_from_slice` would want memmove of the firmware, which the archive does not ask for.
+    fn write(self, part: &mut [u8]) {
+        if part.len() == self.len() {
+            for i in 0..self.len() {
+                part[i] = self[i];
+            }
+        }
+    }
 }
 
-// Whether so many bytes have room from a place on.
-fn has_room(at: usize, size: usize, room: usize) -> bool
-    ensures { result ≡ leb (at + size) room }
-{
-    if room < at {
-        return false;
+impl Text for u32 {
+    ghost text = { count_text };
+
+    fn size(self) -> usize
+        ensures value { result ≡ length (count_text self) }
+        ensures upper_bound { result ≤ most_digits }
+    {
+        self.checked_ilog10().unwrap_or(0) as usize + 1
     }
-    if room - at < size {
-        return false;
+
+    // The last digit first. By hand: the crate `itoa` states its bytes by a word of its own, and they would have to be copied here besides.
+    fn write(self, part: &mut [u8]) {
+        if part.len() != self.size() {
+            return;
+        }
+        let mut rest = self;
+        for place in (0..part.len()).rev() {
+            part[place] = b'0' + (rest % 10) as u8;
+            rest /= 10;
+        }
     }
-    true
 }
 
-// Puts bytes from a place on, and returns the place behind them; without room for all of them it puts none.
-pub fn put_bytes(bytes: &[u8], buffer: &mut [u8], at: usize) -> usize
-    ensures value { result ≡ after_put at bytes.now (length buffer.old) }
-    ensures buffer_after { buffer.new ≡ put_at at bytes.now buffer.old }
-{
-    let fits = has_room(at, bytes.len(), buffer.len());
-    if fits {
-        return write_bytes(bytes, buffer, at);
+impl Text for i32 {
+    ghost text = { signed_text };
+
+    fn size(self) -> usize
+        ensures value { result ≡ length (signed_text self) }
+        ensures upper_bound { result ≤ most_digits + 1 }
+    {
+        let digits = self.unsigned_abs().size();
+        if self < 0 { digits + 1 } else { digits }
     }
-    at
+
+    fn write(self, part: &mut [u8]) {
+        if part.len() != self.size() {
+            return;
+        }
+        let magnitude = self.unsigned_abs();
+        if self < 0 {
+            part[0] = b'-';
+            magnitude.write(&mut part[1..]);
+        } else {
+            magnitude.write(part);
+        }
+    }
 }
 
-// The same of the digits of a count.
-pub fn put_count(v: u32, buffer: &mut [u8], at: usize) -> usize
-    ensures value { result ≡ after_put at (count_text v) (length buffer.old) }
-    ensures buffer_after { buffer.new ≡ put_at at (count_text v) buffer.old }
-{
-    let fits = has_room(at, digit_count(v), buffer.len());
-    if fits {
-        return write_count(v, buffer, at);
-    }
-    at
+// A place in a lent buffer, where the next text is put.
+#[derive(Drop)]
+pub struct Place<'a> {
+    pub buffer: &'a mut [u8],
+    pub at: usize,
 }
 
-// The same of the digits of a count and the byte that ends it.
-pub fn put_ended(v: u32, end: u8, buffer: &mut [u8], at: usize) -> usize
-    ensures value { result ≡ after_put at (count_text v ++ (end ∷ [])) (length buffer.old) }
-    ensures buffer_after { buffer.new ≡ put_at at (count_text v ++ (end ∷ [])) buffer.old }
-{
-    let fits = has_room(at, digit_count(v) + 1, buffer.len());
-    if fits {
-        let last = write_count(v, buffer, at);
-        buffer[last] = end;
-        return last + 1;
+impl<'a> Place<'a> {
+    // The buffer's start.
+    pub fn start(buffer: &'a mut [u8]) -> Place<'a>
+        ensures value { result.at ≡ 0 }
+        ensures buffer_same { result.buffer.now ≡ buffer.old }
+        ensures reference_same { result.buffer.ghost_name ≡ buffer.entry.ghost_name }
+    {
+        Place { buffer, at: 0 }
     }
-    at
-}
 
-// The same of a signed number.
-pub fn put_signed(z: i32, buffer: &mut [u8], at: usize) -> usize
-    ensures value { result ≡ after_put at (signed_text z) (length buffer.old) }
-    ensures buffer_after { buffer.new ≡ put_at at (signed_text z) buffer.old }
-{
-    let fits = has_room(at, signed_size(z), buffer.len());
-    if fits {
-        return write_signed(z, buffer, at);
+    // Puts a text at the place, and goes behind it; without room for all of it it puts nothing and stays.
+    pub fn put<T: Text>(&mut self, text: T)
+        ensures { Puts self.old self.new (T.text text) }
+    {
+        let size = text.size();
+        let at = self.at;
+        let room = self.buffer.len();
+        if at <= room && size <= room - at {
+            let end = at + size;
+            text.write(&mut self.buffer[at..end]);
+            self.at = end;
+        }
     }
-    at
+
+    // The same of a text and the byte that ends it, which are no Text together: the size of any text and one more may not fit.
+    pub fn put_ended<T: Text>(&mut self, text: T, end: u8)
+        ensures { Puts self.old self.new (T.text text ++ (end ∷ [])) }
+    {
+        let size = text.size();
+        let at = self.at;
+        let room = self.buffer.len();
+        if at <= room && size < room - at {
+            self.put(text);
+            self.buffer[self.at] = end;
+            self.at += 1;
+        }
+    }
 }

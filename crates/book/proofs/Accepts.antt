@@ -1,31 +1,17 @@
 -- The reader's walk over right contents lines and bodies: it goes on, and the list's numbers are those of the curves.
 -- Assumes nothing.
-use Prim.Native.Nat.{ℕ, ◌+◌, ◌≤◌}
-use mathlib.Core.Path.{◌≡◌, refl, sym, ap, ◌∙◌, subst}
-use mathlib.Core.Bool.{Bool, true, false}
-use mathlib.Core.List.{List, [], ◌∷◌, ◌++◌}
-use native.Mathlib.Omega.{arith}
-use lib.IntN.{ℤ, pos}
-use lib.ListN.{length}
+use Rattle.std.proofs.Common.{ℕ, ◌+◌, ◌≤◌, ◌≡◌, refl, sym, ap, ◌∙◌, subst, Bool, true, false, List, [], ◌∷◌, ◌++◌, arith, ℤ, pos, length, eqb, eq-eqb, Some, None, Ok}
 use lib.Seq.{append_snoc}
-use lib.Dec.{eqb}
-use borrow.Author.Tests.{eq-eqb}
 use Rattle.decimal.specs.Decimal.{Each}
 use Rattle.decimal.proofs.Choices.{cond_case}
-use Rattle.book.specs.Number.{number_at}
+use Rattle.book.specs.Number.{number_at, Field}
 use Rattle.book.specs.Name.{name_at}
-use Rattle.book.specs.Contents.{headed, heading_at, heading_next, after_heading, contents_line}
+use Rattle.book.specs.Contents.{headed, heading_at, heading_next, after_heading, contents_line, Heading, Line}
 use Rattle.book.specs.Body.{front_numbers, body_from, numbers_at, after_numbers}
 use Rattle.book.specs.Book.{most_curves, accepted_of, line_then, bodies_from, contents_from, after_headings, entry_at, entries_from}
 use Rattle.book.specs.Printed.{IsName, IsNumber, IsBody, Differs, NoTwins, Curve, contents_text, contents_texts, body_text, body_texts, names_of, bodies_of}
 use Rattle.book.specs.LineMeaning.{Stands, Named, LineTheorem}
 use Rattle.book.specs.Meaning.{entries}
-use Rattle.book.specs.declared.text.Field.{Field}
-use Rattle.book.specs.declared.text.Field.TheVariants.{Value, NoValue}
-use Rattle.book.specs.declared.lines.Heading.{Heading}
-use Rattle.book.specs.declared.lines.Heading.TheVariants.{Entry, NoEntry}
-use Rattle.book.specs.declared.lines.Line.{Line}
-use Rattle.book.specs.declared.lines.Line.TheVariants.{Next}
 use Rattle.book.proofs.LineLaws.{line_good}
 use Rattle.book.proofs.BodyText.{body_place}
 use Rattle.book.proofs.Standing.{stands_front, stands_back, stands_starts, name_starts}
@@ -33,12 +19,12 @@ use Rattle.book.proofs.Lists.{length_more, twins_before, named_more, named_lengt
 
 -- a contents line that was read has the name that stands there
 abbrev NameIs : ℕ → Heading → Type 0
-NameIs k (Entry size v next) = k ≡ size
-NameIs k NoEntry = Unit
+NameIs k (Some (size, v, next)) = k ≡ size
+NameIs k None = Unit
 
 headed_name : (size : ℕ) (f : Field) → NameIs size (headed size f)
-headed_name size (Value v next) = refl
-headed_name size NoValue = tt
+headed_name size (Some (v, next)) = refl
+headed_name size None = tt
 
 heading_name : (text : List ℕ) (at : ℕ) → NameIs (name_at text at) (heading_at text at)
 unfolding heading_at
@@ -63,7 +49,7 @@ module _ (lines : LineTheorem) (text : List ℕ) where
     lines_behind : Stands text behind (contents_texts (line + 1) names) end
     lines_behind = stands_back (contents_text name line) (contents_texts (line + 1) names) s
 
-    heading_there : heading_at text at ≡ Entry (length name) line behind
+    heading_there : heading_at text at ≡ Some (length name, line, behind)
     heading_there = lines.heading_reads text at name line behind known small line_there
 
     after_there : after_heading text at ≡ behind
@@ -82,7 +68,7 @@ module _ (lines : LineTheorem) (text : List ℕ) where
     bodies_behind : Stands text past (body_texts bodies) end
     bodies_behind = stands_back (body_text numbers) (body_texts bodies) s
 
-    body_there : (body_from front_numbers text at ≡ Next past) × (numbers_at front_numbers text at ≡ numbers)
+    body_there : (body_from front_numbers text at ≡ Ok past) × (numbers_at front_numbers text at ≡ numbers)
     body_there = lines.body_reads text at numbers past right (stands_front (body_text numbers) (body_texts bodies) s)
 
     numbers-end : after_numbers front_numbers text at ≡ past
@@ -111,8 +97,8 @@ module _ (lines : LineTheorem) (text : List ℕ) where
 
   -- the first of some contents lines, whose name differs from those before
   contents_goes_on : (names : List (List ℕ)) (name : List ℕ) (earlier : List ℕ) (at line behind : ℕ) → IsName name → Named text earlier names
-      → Each (Differs name) names → Stands text at (contents_text name line) behind → heading_at text at ≡ Entry (length name) line behind
-      → contents_line text earlier at line ≡ Next behind
+      → Each (Differs name) names → Stands text at (contents_text name line) behind → heading_at text at ≡ Some (length name, line, behind)
+      → contents_line text earlier at line ≡ Ok behind
   contents_goes_on names name earlier at line behind known named differs s e =
       line_good text earlier at line e refl
       (untrue _ (λ t. lines.twin_found text earlier names at name named known (name_starts text at name line (stands_starts text at (contents_text name line) behind s)) t differs))
@@ -131,7 +117,7 @@ module _ (lines : LineTheorem) (text : List ℕ) where
       let small : IsNumber line = omega arith in
       let next : ℕ = at + length (contents_text name line) in
       let there : Stands text at (contents_text name line) next = line_there name left at line end known.0 small s in
-      let on : contents_line text earlier at line ≡ Next next =
+      let on : contents_line text earlier at line ≡ Ok next =
       contents_goes_on passed name earlier at line next known.0 named (twins_before passed name left twins) there
       (heading_there name left at line end known.0 small s) in
       let more : line + 1 ≡ n + length (earlier ++ (at ∷ [])) + 2 = omega (arith, length_more earlier at) in

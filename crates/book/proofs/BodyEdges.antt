@@ -1,6 +1,6 @@
 -- Bodies at their edges, computed by the definitions.
 -- Assumes nothing.
-use mathlib.Core.Path.{refl}
+use Rattle.std.proofs.Common.{refl}
 use Rattle.book.specs.Number.{digit_at, ended_at, digits_at, number_at, signed_at}
 use Rattle.book.specs.Name.{name_run, name_at, same_bytes, twin_at}
 use Rattle.book.specs.Contents.{heading_at, after_heading, contents_line}

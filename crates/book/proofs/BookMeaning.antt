@@ -1,23 +1,15 @@
 -- What the definitions of a book mean.
 -- Assumes nothing.
-use Prim.Native.Nat.{ℕ, ◌+◌, ◌*◌, ◌≤◌}
-use mathlib.Core.Path.{◌≡◌, refl, sym, ap, ◌∙◌, subst}
-use mathlib.Core.List.{List, [], ◌++◌}
-use native.Mathlib.Omega.{arith}
-use lib.IntN.{ℤ, pos}
-use lib.ListN.{length, drop, replicate, length-replicate}
-use lib.Dec.{ltb}
-use borrow.Author.Tests.{ltb-false}
+use Rattle.std.proofs.Common.{ℕ, ◌+◌, ◌*◌, ◌≤◌, ◌≡◌, refl, sym, ap, ◌∙◌, subst, List, [], ◌++◌, arith, ℤ, pos, length, drop, replicate, ltb, ltb-false, Some}
+use lib.ListN.{length-replicate}
 use Rattle.decimal.proofs.Choices.{cond_case}
 use Rattle.card_list.specs.List.{curve_width}
 use Rattle.book.specs.Number.{number_at, field_next}
-use Rattle.book.specs.Book.{least_list, accepted_of, refused_of, bodies_from, contents_from, text_reply, reply_to_book, after_headings, entries_from, entries_of, list_after, first_heading}
+use Rattle.book.specs.Book.{least_list, accepted_of, refused_of, bodies_from, contents_from, text_reply, reply_to_book, after_headings, entries_from, entries_of, list_after, first_heading, BookReply}
 use Rattle.book.specs.Printed.{IsBook, IsNumber, Curve, contents_texts, names_of, bodies_of, book_text}
 use Rattle.book.specs.LineMeaning.{Stands, LineTheorem}
 use Rattle.book.specs.Meaning.{book_entries, curves_in, TextOfBook, MeaningTheorem}
 use Rattle.book.specs.Reasons.{SaysOfText}
-use Rattle.book.specs.declared.text.Field.TheVariants.{Value}
-use Rattle.book.specs.declared.BookReply.{BookReply}
 use Rattle.book.proofs.LineMeaning.{line_theorem}
 use Rattle.book.proofs.Replies.{text_good, reply_text, list_filled}
 use Rattle.book.proofs.Lists.{named_none}
@@ -37,7 +29,7 @@ module _ (lines : LineTheorem) where
     few : n ≤ 64
     few = book.few
 
-    count_there : number_at text 0 10 ≡ Value n (contents_place curves)
+    count_there : number_at text 0 10 ≡ Some (n, contents_place curves)
     count_there =
         let small : IsNumber n = omega (arith, few) in
         lines.number_reads text 0 10 n (contents_place curves) refl small (count_stands curves)

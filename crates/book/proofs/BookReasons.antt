@@ -1,15 +1,9 @@
 -- What each number of a reply means, and that a refusal counts nought and keeps the list.
 -- Assumes nothing.
-use Prim.Native.Nat.{ℕ, ◌≤◌}
-use mathlib.Core.Path.{◌≡◌, refl, sym, subst}
-use mathlib.Core.Bool.{Bool, cond}
-use mathlib.Core.List.{List}
-use lib.Dec.{ltb}
-use borrow.Author.Tests.{ltb-true, ltb-false, ne_eqb}
+use Rattle.std.proofs.Common.{ℕ, ◌≤◌, ◌≡◌, refl, sym, subst, Bool, cond, List, ltb, ltb-true, ltb-false, ne_eqb}
 use Rattle.decimal.proofs.Choices.{cond_case}
-use Rattle.book.specs.Book.{least_list, refused_of, text_reply, reply_to_book}
+use Rattle.book.specs.Book.{least_list, refused_of, text_reply, reply_to_book, BookReply}
 use Rattle.book.specs.Reasons.{ShortList, SaysOfText, Says, ReasonsTheorem}
-use Rattle.book.specs.declared.BookReply.{BookReply}
 use Rattle.book.proofs.LineMeaning.{line_theorem}
 use Rattle.book.proofs.Replies.{reply_within, list_kept}
 use Rattle.book.proofs.Walks.{text_meant}

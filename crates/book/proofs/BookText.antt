@@ -1,15 +1,8 @@
 -- The text of a book: where its lines stand, how long it is, and its curves read from the list of their numbers.
 -- Assumes nothing.
-use Prim.Native.Nat.{ℕ, suc, ◌+◌, ◌-◌, ◌*◌, ◌^◌, ◌≤◌, ◌<◌}
-use mathlib.Core.Path.{◌≡◌, refl, sym, ap, ◌∙◌, subst}
-use mathlib.Core.List.{List, [], ◌∷◌, ◌++◌, append_assoc, append-nil}
-use native.Mathlib.Omega.{arith}
-use native.Mathlib.Nat.{zero-add}
-use lib.IntN.{ℤ, pos, negsuc}
-use lib.ListN.{length, take, drop, length-append, length-map}
-use lib.Dec.{ltb}
-use borrow.Author.Tests.{ltb-true, ltb-false}
-use lib.Seq.{take-append_seam, take_at, drop_at, drop-length, length-take-le}
+use Rattle.std.proofs.Common.{ℕ, suc, ◌+◌, ◌-◌, ◌*◌, ◌^◌, ◌≤◌, ◌<◌, ◌≡◌, refl, sym, ap, ◌∙◌, subst, List, [], ◌∷◌, ◌++◌, append_assoc, append-nil, arith, zero-add, ℤ, pos, negsuc, length, take, drop, length-append, ltb, ltb-true, ltb-false, take_at, drop_at, length-take-le}
+use lib.ListN.{length-map}
+use lib.Seq.{take-append_seam, drop-length}
 use Rattle.decimal.specs.Decimal.{Each, digits_text}
 use Rattle.decimal.proofs.Choices.{cond_case}
 use Rattle.decimal.proofs.Digits.{digits_most, digits_few}

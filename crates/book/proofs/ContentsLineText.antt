@@ -1,22 +1,13 @@
 -- A contents line is read at a place exactly when its text stands there.
 -- Assumes nothing.
-use Prim.Native.Nat.{ℕ, ◌+◌}
-use mathlib.Core.Path.{◌≡◌, refl, sym, ap, ◌∙◌, subst}
-use mathlib.Core.List.{List, [], ◌∷◌, ◌++◌, append_assoc}
-use native.Mathlib.Omega.{arith}
-use lib.ListN.{length, take, drop}
-use lib.Dec.{eqb}
+use Rattle.std.proofs.Common.{ℕ, ◌+◌, ◌≡◌, refl, sym, ap, ◌∙◌, subst, List, [], ◌∷◌, ◌++◌, append_assoc, arith, length, take, drop, eqb, Some, None}
 use borrow.Author.Tests.{eqb-false}
 use Rattle.decimal.proofs.Choices.{cond_case}
-use Rattle.book.specs.Number.{number_at}
+use Rattle.book.specs.Number.{number_at, Field}
 use Rattle.book.specs.Name.{name_at}
-use Rattle.book.specs.Contents.{headed, heading_at}
+use Rattle.book.specs.Contents.{headed, heading_at, Heading}
 use Rattle.book.specs.Printed.{IsName, IsNumber, number_text, contents_text}
 use Rattle.book.specs.LineMeaning.{Stands}
-use Rattle.book.specs.declared.text.Field.{Field}
-use Rattle.book.specs.declared.text.Field.TheVariants.{Value, NoValue}
-use Rattle.book.specs.declared.lines.Heading.{Heading}
-use Rattle.book.specs.declared.lines.Heading.TheVariants.{Entry, NoEntry}
 use Rattle.book.proofs.LineLaws.{heading_is}
 use Rattle.book.proofs.Standing.{stands_join, stands_back}
 use Rattle.book.proofs.NumberText.{number_read, number_reads}
@@ -29,13 +20,13 @@ module _ (text : List ℕ) (at : ℕ) where
 
   -- what a contents line says that was read
   abbrev pub HeadingRead : Heading → Type 0
-  HeadingRead (Entry size v next) =
+  HeadingRead (Some (size, v, next)) =
       (length (bytes_of size) ≡ size) × (IsName (bytes_of size) × (IsNumber v × Stands text at (contents_text (bytes_of size) v) next))
-  HeadingRead NoEntry = Unit
+  HeadingRead None = Unit
 
   headed_read : (size : ℕ) → NameThere text at size → (f : Field) → number_at text (at + size + 1) 10 ≡ f → HeadingRead (headed size f)
-  headed_read size n NoValue e = tt
-  headed_read size n (Value v next) e =
+  headed_read size n None e = tt
+  headed_read size n (Some (v, next)) e =
       let r : IsNumber v × Stands text (at + size + 1) (number_text v 10) next = number_read text 10 (omega arith) (at + size + 1) v next e in
       (n.long, (n.name, (r.0, stands_join (bytes_of size) (32 ∷ number_text v 10) n.stands (stands_join (32 ∷ []) (number_text v 10) n.blank r.1))))
 
@@ -46,11 +37,11 @@ module _ (text : List ℕ) (at : ℕ) where
       (λ t. let z : name_at text at ≡ 0 → ⊥ = eqb-false _ _ t in
       headed_read (name_at text at) (name_read_lem text at (omega arith)) (number_at text (at + name_at text at + 1) 10) refl)
 
-  pub heading_read : (size v next : ℕ) → heading_at text at ≡ Entry size v next → HeadingRead (Entry size v next)
+  pub heading_read : (size v next : ℕ) → heading_at text at ≡ Some (size, v, next) → HeadingRead (Some (size, v, next))
   heading_read size v next e = subst HeadingRead e read_of
 
   pub heading_reads : (name : List ℕ) (v next : ℕ) → IsName name → IsNumber v → Stands text at (contents_text name v) next
-      → heading_at text at ≡ Entry (length name) v next
+      → heading_at text at ≡ Some (length name, v, next)
   heading_reads name v next n b s =
       let t : Stands text (at + length name) (32 ∷ number_text v 10) next = stands_back name (32 ∷ number_text v 10) s in
       let size : name_at text at ≡ length name =

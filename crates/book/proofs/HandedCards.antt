@@ -1,14 +1,8 @@
 -- Each curve in the list of a book hands over the curve's own numbers and name.
 -- Assumes nothing.
-use Prim.Native.Nat.{ℕ, suc, ◌+◌, ◌*◌, ◌<◌}
-use native.Mathlib.Omega.{arith}
-use native.Mathlib.Nat.{add-zero}
-use mathlib.Core.Path.{◌≡◌, refl, sym, ap, ap₂, ◌∙◌}
-use mathlib.Core.List.{List, [], ◌∷◌, ◌++◌, map, append_assoc}
-use lib.IntN.{ℤ, pos}
-use lib.ListN.{length, drop, get_or-append}
-use lib.Seq.{drop-append-add, get_or-drop}
-use lib.Dec.{lit<}
+use Rattle.std.proofs.Common.{ℕ, suc, ◌+◌, ◌*◌, ◌<◌, arith, add-zero, ◌≡◌, refl, sym, ap, ap₂, ◌∙◌, List, [], ◌∷◌, ◌++◌, map, append_assoc, ℤ, pos, length, drop, get_or-drop, lit<}
+use lib.ListN.{get_or-append}
+use lib.Seq.{drop-append-add}
 use Rattle.decimal.specs.Decimal.{Each}
 use Rattle.card.specs.Card.{card_on}
 use Rattle.card_list.specs.List.{curve_width, counted, datum_of, number_of, datum_from, card_from, card_in, name_place_of, name_place_in, name_bytes, name_in}

@@ -1,18 +1,25 @@
--- What is kept of the contents lines that were read: the places of their names, their sizes and their keys.
+-- What is kept of the contents lines that were read: the names at their places.
 -- Assumes nothing.
-use Prim.Native.Nat.{ℕ, zero, suc, ◌+◌, ◌<◌}
-use mathlib.Core.Path.{◌≡◌, refl, sym, ap, ◌∙◌, subst}
-use mathlib.Core.List.{List, [], ◌∷◌, ◌++◌, map, map-append}
-use native.Mathlib.Omega.{arith}
-use native.Mathlib.Numerals.{add-one}
-use lib.ListN.{length, get_or, take, set}
-use lib.Seq.{take-suc-set}
+use Rattle.std.proofs.Common.{get_or, ℕ, zero, suc, ◌+◌, ◌≤◌, ◌<◌, ◌≡◌, refl, sym, ap, ◌∙◌, List, [], ◌∷◌, ◌++◌, map, add-one, arith, length, take, set, take-suc-set}
+use mathlib.Core.List.{map-append}
 use Rattle.decimal.specs.Decimal.{Each}
 use Rattle.decimal.proofs.Choices.{each_more}
 use Rattle.book.specs.Name.{name_at}
 use Rattle.book.specs.Contents.{after_heading}
-use Rattle.book.specs.Book.{after_headings}
-use Rattle.book.specs.Reading.{key_at, keys_at, sizes_at, headings_from}
+use Rattle.book.specs.Book.{most_bytes, after_headings}
+use Rattle.book.specs.Reading.{key_at, keys_at, kept_at, IsKept, places_of, keys_of, headings_from}
+use Rattle.book.specs.declared.lines.KeptName.{KeptName}
+use Rattle.book.proofs.Names.{name_in_lem}
+
+-- the places that are kept, one by one
+pub places_length : (names : List KeptName) → length (places_of names) ≡ length names
+places_length [] = refl
+places_length (name ∷ names) = ap suc (places_length names)
+
+pub place_at : (names : List KeptName) (i : ℕ) → get_or (places_of names) i 0 ≡ (get_or names i (record { place = 0; size = 0; key = 0 })).place
+place_at [] i = refl
+place_at (name ∷ names) zero = refl
+place_at (name ∷ names) (suc i) = place_at names i
 
 -- one contents line more, at the end
 module _ (text : List ℕ) where
@@ -26,47 +33,52 @@ module _ (text : List ℕ) where
   headings_snoc zero at = refl
   headings_snoc (suc k) at = ap (λ (r : List ℕ). at ∷ r) (headings_snoc k (after_heading text at))
 
-  -- each size is that of the name at its place
-  pub size_there : (places : List ℕ) (i : ℕ) → i < length places → get_or (sizes_at text places) i 0 ≡ name_at text (get_or places i 0)
-  size_there [] i h = absurd (omega arith)
-  size_there (place ∷ places) zero h = refl
-  size_there (place ∷ places) (suc i) h = size_there places i (omega arith)
+  pub headings_length : (k at : ℕ) → length (headings_from k text at) ≡ k
+  unfolding headings_from
+  headings_length zero at = refl
+  headings_length (suc k) at = ap suc (headings_length k (after_heading text at))
 
--- what is kept of each place, one place more
-one_kept : (f : ℕ → ℕ) (l places : List ℕ) (i at : ℕ) {x : ℕ} → i < length l → x ≡ f at → take i l ≡ map f (take i places)
-    → take (suc i) (set l i x) ≡ map f (take i places ++ (at ∷ []))
-one_kept f l places i at room e k =
-    take-suc-set l i _ room
-    ∙ ap (λ (x : ℕ). take i l ++ (x ∷ [])) e
-    ∙ ap (λ (r : List ℕ). r ++ (f at ∷ [])) k
-    ∙ sym (map-append f (take i places) (at ∷ []))
+  -- of what is kept, the places and the keys, and that it stands in the text
+  pub places_kept : (places : List ℕ) → places_of (map (kept_at text) places) ≡ places
+  places_kept [] = refl
+  places_kept (place ∷ places) = ap (λ (r : List ℕ). place ∷ r) (places_kept places)
 
--- of i contents lines: at the first i of `places` stand names, those of the lines, the first i of `keys` and `sizes` are theirs, and the
--- next line stands at `at`
-pub record Kept (text : List ℕ) (first i : ℕ) (keys places sizes : List ℕ) (at : ℕ) : Type 0 where
-  pub keyed : take i keys ≡ keys_at text (take i places)
-  pub sized : take i sizes ≡ sizes_at text (take i places)
-  pub named : Each (λ place. 0 < name_at text place) (take i places)
-  pub placed : take i places ≡ headings_from i text first
+  pub keys_kept : (places : List ℕ) → keys_of (map (kept_at text) places) ≡ keys_at text places
+  keys_kept [] = refl
+  keys_kept (place ∷ places) = ap (λ (r : List ℕ). key_at text place ∷ r) (keys_kept places)
+
+  pub all_kept : length text ≤ most_bytes → (places : List ℕ) → Each (λ place. 0 < name_at text place) places → Each (IsKept text) (map (kept_at text) places)
+  unfolding Each
+  all_kept few [] named = tt
+  all_kept few (place ∷ places) named = ((refl, named.0, omega (arith, name_in_lem text place named.0)), all_kept few places named.1)
+
+-- of i contents lines: names stand at their places, the first i of `names` are these, and the next line stands at `at`
+pub record Kept (text : List ℕ) (first i : ℕ) (names : List KeptName) (at : ℕ) : Type 0 where
+  pub kept : take i names ≡ map (kept_at text) (headings_from i text first)
+  pub named : Each (λ place. 0 < name_at text place) (headings_from i text first)
   pub here : at ≡ after_headings i text first
 
-module _ (text : List ℕ) (first : ℕ) (keys places sizes : List ℕ) where
+module _ (text : List ℕ) (first : ℕ) (names : List KeptName) where
+  -- one place more
+  pub places_more : (i at : ℕ) → Kept text first i names at → headings_from i text first ++ (at ∷ []) ≡ headings_from (i + 1) text first
+  places_more i at k = rw (add-one i) (ap (λ (p : ℕ). headings_from i text first ++ (p ∷ [])) k.here ∙ sym (headings_snoc text i first))
+
   -- none at the start
-  pub kept_none : Kept text first 0 keys places sizes first
+  pub kept_none : Kept text first 0 names first
   unfolding headings_from after_headings Each
-  kept_none = record { keyed = refl; sized = refl; named = tt; placed = refl; here = refl }
+  kept_none = record { kept = refl; named = tt; here = refl }
 
   -- one line more
-  pub kept_turn : (i at : ℕ) {key size next : ℕ} → Kept text first i keys places sizes at → i < length keys → i < length places → i < length sizes
-      → key ≡ key_at text at → size ≡ name_at text at → 0 < name_at text at → next ≡ after_heading text at
-      → Kept text first (i + 1) (set keys i key) (set places i at) (set sizes i size) next
-  kept_turn i at k room space rest key size some e =
-      let now : take (suc i) (set places i at) ≡ take i places ++ (at ∷ []) = take-suc-set places i at space in
+  pub kept_turn : (i at : ℕ) {name : KeptName} {next : ℕ} → Kept text first i names at → i < length names → name ≡ kept_at text at
+      → 0 < name_at text at → next ≡ after_heading text at → Kept text first (i + 1) (set names i name) next
+  kept_turn i at k room same some e =
+      let places : List ℕ = headings_from i text first in
+      let more : headings_from (suc i) text first ≡ places ++ (at ∷ []) = rw (add-one i) at (sym (places_more i at k)) in
       rw (add-one i) (record {
-        keyed = one_kept (key_at text) keys places i at room key k.keyed ∙ ap (keys_at text) (sym now);
-        sized = one_kept (name_at text) sizes places i at rest size k.sized ∙ ap (sizes_at text) (sym now);
-        named = subst (Each (λ place. 0 < name_at text place)) (sym now) (each_more _ (take i places) at k.named some);
-        placed = now ∙ ap (λ (r : List ℕ). r ++ (at ∷ [])) k.placed ∙ ap (λ (p : ℕ). headings_from i text first ++ (p ∷ [])) k.here
-            ∙ sym (headings_snoc text i first);
+        kept = take-suc-set names i _ room
+            ∙ (λ j. k.kept j ++ (same j ∷ []))
+            ∙ sym (map-append (kept_at text) places (at ∷ []))
+            ∙ ap (map (kept_at text)) (sym more);
+        named = rw more (each_more _ places at k.named some);
         here = e ∙ ap (after_heading text) k.here ∙ sym (after_snoc text i first);
       })

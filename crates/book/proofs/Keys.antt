@@ -1,49 +1,57 @@
 -- The keys of names: two names have the same key exactly where they are the same, so that a key among the keys before is a twin.
 -- Assumes nothing.
-use Prim.Native.Nat.{ℕ, zero, suc, ◌+◌, ◌*◌, ◌≤◌, ◌<◌}
-use mathlib.Core.Path.{◌≡◌, refl, sym, ap, ◌∙◌, subst}
-use mathlib.Core.Bool.{Bool, true, false, cond, false≢true, and-false}
-use mathlib.Core.List.{List, [], ◌∷◌}
-use native.Mathlib.Omega.{arith}
-use native.Mathlib.Nat.{add-zero}
-use native.Mathlib.Numerals.{add-one}
-use lib.ListN.{length, get_or, drop, drop_of_length-le}
-use lib.Seq.{drop-cons}
-use lib.Dec.{eqb, leb}
-use borrow.Author.Tests.{leb-true, leb-false, lt-leb, eqb-true, eqb-false, eq-eqb, ne_eqb}
+use Rattle.std.specs.List.{list_any}
+use Rattle.std.proofs.Common.{map, Result, ◌||◌, nat_eq, ℕ, zero, suc, ◌+◌, ◌*◌, ◌≤◌, ◌<◌, ◌≡◌, refl, sym, ap, ◌∙◌, subst, Bool, true, false, cond, List, [], ◌∷◌, arith, add-zero, add-one, eqb, leb, leb-true, leb-false, eqb-true, eq-eqb, Some, None, Ok, Err}
+use mathlib.Core.Bool.{false≢true, and-false}
+use borrow.Author.Tests.{lt-leb, eqb-false}
 use Rattle.decimal.specs.Decimal.{Each}
 use Rattle.decimal.proofs.Choices.{cond_case}
-use Rattle.book.specs.Number.{byte_at, number_at}
+use Rattle.book.specs.Number.{byte_at, number_at, Field}
 use Rattle.book.specs.Name.{is_name_byte, name_run, name_at, same_bytes, twin_at}
-use Rattle.book.specs.Contents.{headed, heading_at, contents_line_of, contents_line, heading_next, after_heading}
-use Rattle.book.specs.Reading.{key_from, key_at, keys_at, among, line_by}
-use Rattle.book.specs.declared.text.Field.{Field}
-use Rattle.book.specs.declared.text.Field.TheVariants.{Value, NoValue}
-use Rattle.book.specs.declared.lines.Heading.{Heading}
-use Rattle.book.specs.declared.lines.Heading.TheVariants.{Entry, NoEntry}
-use Rattle.book.specs.declared.lines.Line.{Line}
-use Rattle.book.specs.declared.lines.Line.TheVariants.{Next, Fault}
+use Rattle.book.specs.Contents.{headed, heading_at, contents_line_of, contents_line, heading_next, after_heading, Heading, Line}
+use Rattle.book.specs.Reading.{key_from, key_at, keys_at, kept_at, keys_of, among, line_by}
+use Rattle.book.specs.declared.Fault.{Fault}
+use Rattle.book.specs.declared.Fault.TheVariants.{TwinName, WrongLine}
+use Rattle.book.specs.declared.lines.KeptName.{KeptName}
+use Rattle.book.proofs.Kept.{keys_kept}
 use Rattle.book.proofs.TwinText.{same_head, same_cons}
 
-module _ (keys : List ℕ) (key i : ℕ) where
-  -- after the last key there is none more
-  pub among_past : length keys ≤ i → among (drop i keys) key ≡ false
-  unfolding among
-  among_past h = rw (drop_of_length-le keys h)
+-- a key among several, by a search
+either : (b c : Bool) → (b || c) ≡ cond b true c
+either true c = refl
+either false c = refl
 
-  module _ (some : i < length keys) where
-    -- a key among the rest is the next one or among those after it
-    among_next : among (drop i keys) key ≡ cond (eqb (get_or keys i 0) key) true (among (drop (i + 1) keys) key)
-    unfolding among
-    among_next = rw (drop-cons keys i 0 some, add-one i)
+pub any_among : (keys : List ℕ) (key : ℕ) → list_any (λ (other : ℕ). nat_eq other key) keys ≡ among keys key
+unfolding among
+any_among [] key = refl
+any_among (other ∷ keys) key = ap (λ (b : Bool). nat_eq other key || b) (any_among keys key) ∙ either (eqb other key) (among keys key)
 
-    -- the next one is the key
-    pub among_here : get_or keys i 0 ≡ key → among (drop i keys) key ≡ true
-    among_here e = among_next ∙ rw (eq-eqb _ _ e)
+-- and among those that are kept
+pub any_kept : (names : List KeptName) (key : ℕ) → list_any (λ (name : KeptName). nat_eq name.key key) names ≡ among (keys_of names) key
+unfolding among
+any_kept [] key = refl
+any_kept (name ∷ names) key = ap (λ (b : Bool). nat_eq name.key key || b) (any_kept names key) ∙ either (eqb name.key key) (among (keys_of names) key)
 
-    -- it is not
-    pub among_turn : (get_or keys i 0 ≡ key → ⊥) → among (drop i keys) key ≡ among (drop (i + 1) keys) key
-    among_turn e = among_next ∙ rw (ne_eqb _ _ e)
+-- where a line leads, whatever name is kept of it
+abbrev pub leads : Result (KeptName × ℕ) Fault → Line
+leads (Ok (name, next)) = Ok next
+leads (Err fault) = Err fault
+
+-- and the name that is kept of it
+pub kept_led : (names : List KeptName) (kept : KeptName) (due : ℕ) (h : Heading) {name : KeptName} {next : ℕ} → line_by names kept due h ≡ Ok (name, next) → name ≡ kept
+kept_led names kept due None = λ e. absurd (cc)
+kept_led names kept due (Some (size, v, after)) {name} {next} =
+    let Led : Result (KeptName × ℕ) Fault → Type 0 = λ l. l ≡ Ok (name, next) → name ≡ kept in
+    cond_case Led (eqb v due) _ _
+    (λ t. cond_case Led (among (keys_of names) kept.key) _ _ (λ u e. absurd (cc))
+    (λ u e. let same : ◌≡◌ {A = KeptName × ℕ} (kept, after) (name, next) = cc in sym (ap (λ (p : KeptName × ℕ). p.0) same)))
+    (λ t e. absurd (cc))
+
+led : (b t : Bool) (name : KeptName) (next : ℕ)
+    → leads (cond b (cond t (Err TwinName) (Ok (name, next))) (Err WrongLine)) ≡ cond b (cond t (Err TwinName) (Ok next)) (Err WrongLine)
+led true true name next = refl
+led true false name next = refl
+led false t name next = refl
 
 -- a byte of a name is above 0
 name_byte_some : (b : ℕ) → is_name_byte b ≡ true → 0 < b
@@ -185,13 +193,13 @@ module _ (text : List ℕ) where
   module _ (at : ℕ) where
     -- a contents line has a name of its size, where it is not malformed
     abbrev HeadingNamed : Heading → Type 0
-    HeadingNamed (Entry size v next) = (size ≡ name_at text at) × (0 < size)
-    HeadingNamed NoEntry = Unit
+    HeadingNamed (Some (size, v, next)) = (size ≡ name_at text at) × (0 < size)
+    HeadingNamed None = Unit
 
     -- so it is with a name and whatever stands after it
     headed_named : (size : ℕ) (f : Field) → size ≡ name_at text at → 0 < size → HeadingNamed (headed size f)
-    headed_named size (Value v next) e some = (e, some)
-    headed_named size NoValue e some = tt
+    headed_named size (Some (v, next)) e some = (e, some)
+    headed_named size None e some = tt
 
     -- and with the contents line that is read
     heading_named : HeadingNamed (heading_at text at)
@@ -204,26 +212,27 @@ module _ (text : List ℕ) where
 
     -- a line that leads on has a name, and leads to this place
     abbrev NextNamed : ℕ → Line → Type 0
-    NextNamed after (Next p) = (0 < name_at text at) × (p ≡ after)
-    NextNamed after (Fault k) = Unit
+    NextNamed after (Ok p) = (0 < name_at text at) × (p ≡ after)
+    NextNamed after (Err k) = Unit
 
   module _ (earlier : List ℕ) (at due : ℕ) where
     -- by keys or by names, a contents line leads to the same
-    pub line_keyed : AllNamed earlier → line_by (keys_at text earlier) (key_at text at) due (heading_at text at) ≡ contents_line text earlier at due
+    pub line_keyed : AllNamed earlier → leads (line_by (map (kept_at text) earlier) (kept_at text at) due (heading_at text at)) ≡ contents_line text earlier at due
     unfolding contents_line
     line_keyed named = by_heading (heading_at text at) (heading_named at)
       where
-        by_heading : (h : Heading) → HeadingNamed at h → line_by (keys_at text earlier) (key_at text at) due h ≡ contents_line_of text earlier at due h
-        by_heading (Entry size v next) n = rw (keys_twin earlier at size n.0 n.1 named)
-        by_heading NoEntry n = refl
+        by_heading : (h : Heading) → HeadingNamed at h
+            → leads (line_by (map (kept_at text) earlier) (kept_at text at) due h) ≡ contents_line_of text earlier at due h
+        by_heading (Some (size, v, next)) n = rw (keys_kept text earlier, keys_twin earlier at size n.0 n.1 named) (led (eqb v due) _ _ next)
+        by_heading None n = refl
 
     -- a right contents line has a name, and the next one starts after it
-    pub named_next : {p : ℕ} → contents_line text earlier at due ≡ Next p → (0 < name_at text at) × (p ≡ after_heading text at)
+    pub named_next : {p : ℕ} → contents_line text earlier at due ≡ Ok p → (0 < name_at text at) × (p ≡ after_heading text at)
     unfolding contents_line after_heading
     named_next e = subst (NextNamed at (heading_next at (heading_at text at))) e (of_heading (heading_at text at) (heading_named at))
       where
         of_heading : (h : Heading) → HeadingNamed at h → NextNamed at (heading_next at h) (contents_line_of text earlier at due h)
-        of_heading NoEntry n = tt
-        of_heading (Entry size v next) n =
+        of_heading None n = tt
+        of_heading (Some (size, v, next)) n =
             cond_case (NextNamed at next) (eqb v due) _ _
             (λ t. cond_case (NextNamed at next) (twin_at text earlier at size) _ _ (λ u. tt) (λ u. (omega arith, refl))) (λ t. tt)

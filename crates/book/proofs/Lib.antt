@@ -12,7 +12,6 @@ pub mod TwinText
 pub mod Keys
 pub mod BodyText
 pub mod LineMeaning
-pub mod Outcomes
 pub mod Lists
 pub mod Kept
 pub mod RightLines
@@ -25,8 +24,10 @@ pub mod HandedCards
 pub mod RampReads
 pub mod BodyEdges
 pub mod WriterBodies
+pub mod WriterCurves
 pub mod WriterNames
 pub mod WriterLines
 pub mod WriterReplies
 pub mod WriterMeaning
+pub mod WriterTests
 pub mod WriterEdges

@@ -1,15 +1,6 @@
 -- A name is read at a place exactly when it stands there with a blank after it.
 -- Assumes nothing.
-use Prim.Native.Nat.{ℕ, zero, suc, ◌+◌, ◌≤◌, ◌<◌}
-use mathlib.Core.Path.{◌≡◌, sym, ap, ◌∙◌, subst}
-use mathlib.Core.Bool.{true}
-use mathlib.Core.List.{List, [], ◌∷◌, ◌++◌}
-use native.Mathlib.Omega.{arith}
-use native.Mathlib.Numerals.{add-one}
-use lib.ListN.{length, take, drop, length-drop, take-append-drop}
-use lib.Seq.{drop-cons, drop-drop, length-take-le}
-use lib.Dec.{eqb}
-use borrow.Author.Tests.{eqb-true, eq-eqb}
+use Rattle.std.proofs.Common.{ℕ, zero, suc, ◌+◌, ◌≤◌, ◌<◌, ◌≡◌, sym, ap, ◌∙◌, subst, true, List, [], ◌∷◌, ◌++◌, arith, add-one, length, take, drop, length-drop, take-append-drop, drop-cons, drop-drop, length-take-le, eqb, eqb-true, eq-eqb}
 use Rattle.decimal.specs.Decimal.{Each}
 use Rattle.decimal.proofs.Choices.{cond_case}
 use Rattle.book.specs.Number.{byte_at}
@@ -38,11 +29,6 @@ module _ (text : List ℕ) where
   run_most zero at = omega arith
   run_most (suc k) at =
       cond_case (λ (n : ℕ). n ≤ suc k) (is_name_byte (byte_at text at)) _ _ (λ t. omega (arith, run_most k (at + 1))) (λ t. omega arith)
-
-  -- so a name has at most eight
-  pub name_most : (at : ℕ) → name_at text at ≤ 8
-  unfolding name_at
-  name_most at = cond_case (λ (n : ℕ). n ≤ 8) (eqb (byte_at text (at + name_run 8 text at)) 32) _ _ (λ t. run_most 8 at) (λ t. omega arith)
 
   pub run_bytes : (k at : ℕ) → NameBytes (take (name_run k text at) (drop at text))
   unfolding name_run Each

@@ -1,22 +1,13 @@
 -- A number is read at a place exactly when its text stands there.
 -- Assumes nothing.
-use Prim.Native.Nat.{ℕ, zero, suc, ◌+◌, ◌*◌, ◌/◌, ◌%◌, ◌^◌, ◌≤◌, ◌<◌}
-use mathlib.Core.Path.{◌≡◌, sym, ap, ◌∙◌, subst}
-use mathlib.Core.List.{List, [], ◌∷◌, ◌++◌}
-use mathlib.Core.Logic.{⊎_elim}
-use native.Mathlib.Omega.{arith}
-use native.Mathlib.Nat.{eq-zero-or-pos}
-use lib.ListN.{length}
-use lib.Dec.{ltb, eqb, lit<}
-use borrow.Author.Tests.{ltb-true, ltb-false, eqb-true, eqb-false, eq-eqb}
+use Rattle.std.proofs.Common.{ℕ, zero, suc, ◌+◌, ◌*◌, ◌/◌, ◌%◌, ◌^◌, ◌≤◌, ◌<◌, ◌≡◌, sym, ap, ◌∙◌, subst, List, [], ◌∷◌, ◌++◌, ⊎_elim, arith, eq-zero-or-pos, length, ltb, eqb, lit<, ltb-true, ltb-false, eqb-true, eq-eqb, Some, None}
+use borrow.Author.Tests.{eqb-false}
 use Rattle.decimal.specs.Decimal.{digit_of, digits_text}
 use Rattle.decimal.proofs.Choices.{cond_case}
 use Rattle.decimal.proofs.Digits.{of_digit, digit_or, text_one, text-more, text_seven, tenth_below}
-use Rattle.book.specs.Number.{byte_at, digit_at, ended_at, digits_at, number_at}
+use Rattle.book.specs.Number.{byte_at, digit_at, ended_at, digits_at, number_at, Field}
 use Rattle.book.specs.Printed.{IsNumber, number_text}
 use Rattle.book.specs.LineMeaning.{Stands}
-use Rattle.book.specs.declared.text.Field.{Field}
-use Rattle.book.specs.declared.text.Field.TheVariants.{Value, NoValue}
 use Rattle.book.proofs.Places.{byte_inside, digit_inside, digits-stop, digits_more, base_more, power_wide, field_zero, field_some}
 use Rattle.book.proofs.Standing.{byte_there, stands_one, stands_join, stands_front, stands_back}
 
@@ -39,8 +30,8 @@ module _ (text : List ℕ) where
   module _ (end : ℕ) (some : 0 < end) where
     -- what a number that was read says of the text from `start` on
     abbrev Read : ℕ → Field → Type 0
-    Read start (Value v next) = IsNumber v × Stands text start (number_text v end) next
-    Read start NoValue = Unit
+    Read start (Some (v, next)) = IsNumber v × Stands text start (number_text v end) next
+    Read start None = Unit
 
     -- the value is read, and the byte after it ends the number
     ended_read : (start at v : ℕ) → IsNumber v → Stands text start (digits_text 7 v) at → Read start (ended_at text at v end)
@@ -77,7 +68,7 @@ module _ (text : List ℕ) where
         digits_read 6 1 at (at + 1) (digit_at text at) (omega arith) (omega arith) d (first_stands at d)))
         (λ t. tt)
 
-    pub number_read : (at v next : ℕ) → number_at text at end ≡ Value v next → IsNumber v × Stands text at (number_text v end) next
+    pub number_read : (at v next : ℕ) → number_at text at end ≡ Some (v, next) → IsNumber v × Stands text at (number_text v end) next
     number_read at v next e = subst (Read at) e (read_of at)
 
 -- the digit at a place where its text stands
@@ -120,30 +111,30 @@ module _ (text : List ℕ) where
 
   -- after the digits the byte that ends the number stands
   module _ (at end v next : ℕ) (other : digit_of end ≡ 10) where
-    ended : (p : ℕ) → Stands text p (end ∷ []) next → ended_at text p v end ≡ Value v next
+    ended : (p : ℕ) → Stands text p (end ∷ []) next → ended_at text p v end ≡ Some (v, next)
     unfolding ended_at
     ended p s =
         let e : byte_at text p ≡ end = byte_there text p end _ s.there in
         rw (eq-eqb _ _ e, s.after)
 
-    stopped : (p k : ℕ) → Stands text p (end ∷ []) next → digits_at k text p v end ≡ Value v next
+    stopped : (p k : ℕ) → Stands text p (end ∷ []) next → digits_at k text p v end ≡ Some (v, next)
     unfolding digit_at
     stopped p k s =
         let e : byte_at text p ≡ end = byte_there text p end _ s.there in
         let d : digit_at text p ≡ 10 = ap digit_of e ∙ other in
         digits-stop text p v end k (omega arith) ∙ ended p s
 
-    zero_reads : (p : ℕ) → v ≡ 0 → Stands text at (digits_text 7 v) p → Stands text p (end ∷ []) next → number_at text at end ≡ Value v next
+    zero_reads : (p : ℕ) → v ≡ 0 → Stands text at (digits_text 7 v) p → Stands text p (end ∷ []) next → number_at text at end ≡ Some (v, next)
     zero_reads p z s t =
         let one : digits_text 7 v ≡ 48 ∷ [] = text_one 6 v (omega arith) ∙ ap (λ (n : ℕ). (48 + n) ∷ []) z in
         let u : Stands text at (48 ∷ []) p = subst (λ (bytes : List ℕ). Stands text at bytes p) one s in
         field_zero text at end (digit_there at 0 p (omega arith) u)
         ∙ ap (λ (n : ℕ). ended_at text (at + 1) n end) (sym z) ∙ ap (λ (q : ℕ). ended_at text q v end) (sym u.after) ∙ ended p t
 
-    pub number_reads : IsNumber v → Stands text at (number_text v end) next → number_at text at end ≡ Value v next
+    pub number_reads : IsNumber v → Stands text at (number_text v end) next → number_at text at end ≡ Some (v, next)
     number_reads b s =
         let front = stands_front (digits_text 7 v) (end ∷ []) s in
         let back = stands_back (digits_text 7 v) (end ∷ []) s in
         ⊎_elim (λ z. zero_reads _ z front back)
-        (λ h. through at end (Value v next) 6 v _ (omega arith) h b front (λ i g. stopped _ i back))
+        (λ h. through at end (Some (v, next)) 6 v _ (omega arith) h b front (λ i g. stopped _ i back))
         (eq-zero-or-pos v)

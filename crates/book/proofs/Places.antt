@@ -1,19 +1,15 @@
--- Bytes, digits and numbers at places of a text: how they are read step by step, and that the place after a number lies inside the text.
+-- Bytes, digits and numbers at places of a text: how they are read step by step.
 -- Assumes nothing.
-use Prim.Native.Nat.{ℕ, zero, suc, ◌+◌, ◌-◌, ◌*◌, ◌^◌, ◌≤◌, ◌<◌, suc-le-suc}
-use mathlib.Core.Path.{◌≡◌, refl, ap, ◌∙◌, subst}
-use mathlib.Core.List.{List, [], ◌∷◌}
-use native.Mathlib.Omega.{arith}
-use native.Mathlib.Nat.{pow-suc, pow-le-pow_right, mul-le-mul_right, suc-mul, lt_of_lt_of_le}
-use native.Mathlib.Numerals.{add-one}
-use lib.ListN.{length}
-use lib.Dec.{ltb, eqb}
-use borrow.Author.Tests.{lt-ltb, le-ltb, eqb-true, eq-eqb, ne_eqb}
+use lib.Signed.{mag}
+use Rattle.std.proofs.Common.{ℤ, pos, of_z, to_z, to_z-of_z, w32, ltb-true, sym, ℕ, zero, suc, ◌+◌, ◌-◌, ◌*◌, ◌^◌, ◌≤◌, ◌<◌, suc-le-suc, ◌≡◌, refl, ap, ◌∙◌, List, [], ◌∷◌, arith, pow-suc, mul-le-mul_right, suc-mul, lt_of_lt_of_le, add-one, length, ltb, lt-ltb, le-ltb, eq-eqb, ne_eqb, Some, None}
+use native.Mathlib.Nat.{pow-le-pow_right}
+use Rattle.std.proofs.lemmas.Option.{cond_some}
+use Rattle.std.proofs.lemmas.Bool.Decides.{nat_tests}
 use Rattle.decimal.specs.Decimal.{digit_of}
-use Rattle.decimal.proofs.Choices.{cond_case}
+use Rattle.book.specs.Reading.{byte_of, digit_read}
 use Rattle.book.specs.Number.{byte_at, digit_at, ended_at, digits_at, number_at}
-use Rattle.book.specs.declared.text.Field.{Field}
-use Rattle.book.specs.declared.text.Field.TheVariants.{Value, NoValue}
+use Rattle.book.specs.declared.text.End.{End}
+use Rattle.book.specs.declared.text.End.TheVariants.{Line, Blank}
 
 -- a byte that the 0 past the end is not stands inside the text
 pub inside : (P : ℕ → Type 0) → (P 0 → ⊥) → (text : List ℕ) (at : ℕ) → P (byte_at text at) → at < length text
@@ -28,6 +24,18 @@ byte_inside = inside (λ b. 0 < b) (λ h. omega arith)
 pub digit_inside : (text : List ℕ) (at : ℕ) → digit_at text at < 10 → at < length text
 unfolding digit_at
 digit_inside = inside (λ b. digit_of b < 10) (λ h. omega arith)
+
+-- the byte that ends a number is above 0
+pub end_some : (end : End) → 0 < byte_of end
+end_some Line = omega arith
+end_some Blank = omega arith
+
+-- a digit that was read, and none
+pub digit_some : (text : List ℕ) (at d : ℕ) → Some d ≡ digit_read text at → (digit_at text at ≡ d) × (digit_at text at < 10)
+digit_some text at d e = let r = cond_some (ltb (digit_at text at) 10) (digit_at text at) d (sym e) in (r.1, ltb-true _ 10 r.0)
+
+pub digit_none : (text : List ℕ) (at : ℕ) → digit_read text at ≡ None → 10 ≤ digit_at text at
+digit_none text at e = grind (arith, nat_tests)
 
 module _ (text : List ℕ) (at v end : ℕ) where
   -- where no digit stands, the number ends
@@ -46,11 +54,13 @@ module _ (text : List ℕ) (at v end : ℕ) where
   digits_more k h = simp (lt-ltb _ _ h)
 
   -- one digit more
-  pub digits_turn : (n : ℕ) → n < 6 → digit_at text at < 10
-      → digits_at (6 - n) text at v end ≡ digits_at (6 - (n + 1)) text (at + 1) (v * 10 + digit_at text at) end
-  digits_turn n l h =
-      let k : 6 - n ≡ suc (6 - (n + 1)) = omega arith in
-      ap (λ (m : ℕ). digits_at m text at v end) k ∙ digits_more (6 - (n + 1)) h
+  pub digits_turn : (last d : ℕ) → at < last → Some d ≡ digit_read text at
+      → digits_at (last - at) text at v end ≡ digits_at (last - (at + 1)) text (at + 1) (v * 10 + d) end
+  digits_turn last d l e =
+      let r = digit_some text at d e in
+      let k : last - at ≡ suc (last - (at + 1)) = omega arith in
+      ap (λ (m : ℕ). digits_at m text at v end) k ∙ digits_more (last - (at + 1)) r.1
+      ∙ ap (λ (x : ℕ). digits_at (last - (at + 1)) text (at + 1) (v * 10 + x) end) r.0
 
 -- a number below a power of the base, with one digit more, is below the next power
 pub base_more : {base : ℕ} (n v d : ℕ) → v < base ^ n → d < base → v * base + d < base ^ (n + 1)
@@ -62,7 +72,7 @@ power_wide m n v some l h = lt_of_lt_of_le h (pow-le-pow_right some {i = m} {j =
 
 module _ (text : List ℕ) (at end : ℕ) where
   -- no number starts where no digit stands
-  pub field-none : 10 ≤ digit_at text at → number_at text at end ≡ NoValue
+  pub field-none : 10 ≤ digit_at text at → number_at text at end ≡ None
   unfolding number_at
   field-none h = simp (le-ltb _ _ h)
 
@@ -78,35 +88,6 @@ module _ (text : List ℕ) (at end : ℕ) where
   unfolding number_at
   field_some l h = simp (lt-ltb _ _ l, ne_eqb _ _ h)
 
--- the place after a number is at most m
-abbrev pub FieldIn : ℕ → Field → Type 0
-FieldIn m (Value v next) = next ≤ m
-FieldIn m NoValue = Unit
-
-module _ (text : List ℕ) (end : ℕ) (above : 0 < end) where
-  ended_in : (at v : ℕ) → FieldIn (length text) (ended_at text at v end)
-  unfolding ended_at
-  ended_in at v =
-      cond_case (FieldIn (length text)) (eqb (byte_at text at) end) (Value v (at + 1)) NoValue
-      (λ t. let q : byte_at text at ≡ end = eqb-true _ _ t in let p : 0 < byte_at text at = omega arith in omega (arith, byte_inside text at p))
-      (λ t. tt)
-
-  digits_in : (k at v : ℕ) → FieldIn (length text) (digits_at k text at v end)
-  unfolding digits_at
-  digits_in zero at v = ended_in at v
-  digits_in (suc k) at v =
-      cond_case (FieldIn (length text)) (ltb (digit_at text at) 10) _ _
-      (λ t. digits_in k (at + 1) (v * 10 + digit_at text at))
-      (λ t. ended_in at v)
-
-  -- the place after a number lies inside the text or at its end
-  pub field_in : (at : ℕ) → FieldIn (length text) (number_at text at end)
-  unfolding number_at
-  field_in at =
-      cond_case (FieldIn (length text)) (ltb (digit_at text at) 10) _ _
-      (λ t. cond_case (FieldIn (length text)) (eqb (digit_at text at) 0) _ _ (λ u. ended_in (at + 1) 0) (λ u. digits_in 6 (at + 1) (digit_at text at)))
-      (λ t. tt)
-
-  -- the same of a number that was read
-  pub field_next_lem : (at : ℕ) {v next : ℕ} → number_at text at end ≡ Value v next → next ≤ length text
-  field_next_lem at q = subst (FieldIn (length text)) q (field_in at)
+-- what a signed number of 32 bits is read back as
+pub read_back : {z : ℤ} {v : ℕ} → mag z < 2147483648 → z ≡ pos v → to_z w32 (of_z w32 z) ≡ pos v
+read_back few e = to_z-of_z {w = w32} (record { sfits = few }) ∙ e

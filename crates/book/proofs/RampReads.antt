@@ -1,8 +1,6 @@
 -- Document 01's own book, and the same with its curve surveyed, computed by the definitions.
 -- Assumes nothing.
-use mathlib.Core.Path.{refl}
-use mathlib.Core.List.{[], ◌∷◌}
-use lib.Dec.{lit<, lit≤}
+use Rattle.std.proofs.Common.{refl, [], ◌∷◌, lit<, lit≤}
 use Rattle.decimal.specs.Decimal.{digits_text, Each}
 use Rattle.book.specs.Number.{digit_at, ended_at, digits_at, number_at, signed_at}
 use Rattle.book.specs.Name.{name_run, name_at, same_bytes, twin_at}

@@ -1,27 +1,15 @@
 -- Replies to a text: how the lines are gone through step by step, and what an accepting reply says of its count and its text.
 -- Assumes nothing.
-use Prim.Native.Nat.{ℕ, zero, suc, ◌+◌, ◌-◌, ◌*◌, ◌≤◌, ◌<◌}
-use mathlib.Core.Path.{◌≡◌, refl, sym, ap, ◌∙◌, subst}
-use mathlib.Core.Bool.{Bool, cond, ◌&&◌, and-eq-true_iff}
-use mathlib.Core.List.{List, [], ◌∷◌, ◌++◌}
-use native.Mathlib.Omega.{arith}
-use native.Mathlib.Numerals.{add-one}
-use lib.IntN.{ℤ}
-use lib.ListN.{length, take, drop, set}
-use lib.Seq.{length-take-le, take-suc-set}
-use lib.Dec.{ltb, leb, eqb}
-use borrow.Author.Tests.{leb-true, le-leb, lt-leb, lt-ltb, le-ltb, ltb-false, eq-eqb, ne_eqb}
+use Rattle.std.proofs.Common.{ℕ, zero, suc, ◌+◌, ◌-◌, ◌*◌, ◌≤◌, ◌<◌, ◌≡◌, refl, sym, ap, ◌∙◌, Bool, cond, ◌&&◌, List, [], ◌∷◌, ◌++◌, arith, ℤ, length, drop, ltb, leb, eqb, leb-true, le-leb, lt-ltb, le-ltb, ltb-false, eq-eqb, ne_eqb, Some, None, Ok, Err}
+use mathlib.Core.Bool.{and-eq-true_iff}
 use Rattle.decimal.proofs.Choices.{cond_case}
 use Rattle.card_list.specs.List.{curve_width}
-use Rattle.book.specs.Number.{number_at}
-use Rattle.book.specs.Contents.{contents_line}
+use Rattle.book.specs.Number.{number_at, Field}
+use Rattle.book.specs.Contents.{contents_line, Line}
 use Rattle.book.specs.Body.{front_numbers, body_from}
-use Rattle.book.specs.Book.{most_curves, most_bytes, least_list, refused_of, accepted_of, line_then, bodies_from, contents_from, count_then, text_reply, reply_to_book, entries_of, list_by, list_after}
-use Rattle.book.specs.declared.text.Field.{Field}
-use Rattle.book.specs.declared.text.Field.TheVariants.{Value, NoValue}
-use Rattle.book.specs.declared.lines.Line.{Line}
-use Rattle.book.specs.declared.lines.Line.TheVariants.{Next, Fault}
-use Rattle.book.specs.declared.BookReply.{BookReply}
+use Rattle.book.specs.Book.{fault_number, most_curves, most_bytes, least_list, refused_of, accepted_of, line_then, bodies_from, contents_from, count_then, text_reply, reply_to_book, entries_of, list_by, list_after, BookReply}
+use Rattle.book.specs.declared.Fault.{Fault}
+use Rattle.book.specs.declared.Fault.TheVariants.{BookSize, CountLine, ContentsLine, WrongLine, TwinName, Body, Tail, ShortList}
 
 module _ (text : List ℕ) (n i at : ℕ) where
   -- one body, and what follows it
@@ -48,71 +36,42 @@ module _ (text : List ℕ) (n i at : ℕ) where
       let k : 2 * n + 2 ≡ n + n + 2 = omega arith in
       bodies_end h ∙ ap (λ (b : Bool). cond b (accepted_of n) (refused_of 27 (2 * n + 2))) (ne_eqb _ _ e) ∙ ap (refused_of 27) k
 
--- the names of the contents lines before stand at the first i of the places that are kept
-module _ (text : List ℕ) (n i : ℕ) (places : List ℕ) (at : ℕ) where
+-- the names of the i contents lines before stand at the places `earlier`
+module _ (text : List ℕ) (n i : ℕ) (earlier : List ℕ) (at : ℕ) where
   -- after the last contents line come the bodies
-  pub contents_end : n ≤ i → contents_from (n - i) text n (take i places) at ≡ bodies_from n text n 0 at
+  pub contents_end : n ≤ i → contents_from (n - i) text n earlier at ≡ bodies_from n text n 0 at
   unfolding contents_from
   contents_end h =
       let k : n - i ≡ 0 = omega arith in
-      ap (λ (m : ℕ). contents_from m text n (take i places) at) k
+      ap (λ (m : ℕ). contents_from m text n earlier at) k
 
-  module _ (some : i < n) (room : i < length places) where
-    contents_step : contents_from (n - i) text n (take i places) at
-        ≡ line_then (contents_line text (take i places) at (n + i + 2)) (i + 2) (contents_from (n - (i + 1)) text n (take (i + 1) (set places i at)))
-    unfolding contents_from
-    contents_step =
-        let k : n - i ≡ suc (n - (i + 1)) = omega arith in
-        let kept : take (i + 1) (set places i at) ≡ take i places ++ (at ∷ []) = rw (add-one i) (take-suc-set places i at room) in
-        ap (λ (m : ℕ). contents_from m text n (take i places) at) k
-        ∙ ap (λ (m : ℕ). line_then (contents_line text (take i places) at (n + m + 2)) (m + 2) (contents_from (n - (i + 1)) text n (take i places ++ (at ∷ []))))
-        (length-take-le i places (omega arith))
-        ∙ ap (λ (l : List ℕ). line_then (contents_line text (take i places) at (n + i + 2)) (i + 2) (contents_from (n - (i + 1)) text n l)) (sym kept)
-
-    -- one contents line, whose place is kept, and what follows it
-    pub contents_turn : {l : Line} → contents_line text (take i places) at (n + i + 2) ≡ l
-        → contents_from (n - i) text n (take i places) at ≡ line_then l (i + 2) (contents_from (n - (i + 1)) text n (take (i + 1) (set places i at)))
-    contents_turn e = contents_step ∙ ap (λ (l : Line). line_then l (i + 2) (contents_from (n - (i + 1)) text n (take (i + 1) (set places i at)))) e
+  -- one contents line, and what follows it
+  pub contents_turn : {l : Line} → i < n → length earlier ≡ i → contents_line text earlier at (n + i + 2) ≡ l
+      → contents_from (n - i) text n earlier at ≡ line_then l (i + 2) (contents_from (n - (i + 1)) text n (earlier ++ (at ∷ [])))
+  unfolding contents_from
+  contents_turn some size e =
+      let k : n - i ≡ suc (n - (i + 1)) = omega arith in
+      ap (λ (m : ℕ). contents_from m text n earlier at) k
+      ∙ ap (λ (m : ℕ). line_then (contents_line text earlier at (n + m + 2)) (m + 2) (contents_from (n - (i + 1)) text n (earlier ++ (at ∷ [])))) size
+      ∙ ap (λ (l : Line). line_then l (i + 2) (contents_from (n - (i + 1)) text n (earlier ++ (at ∷ [])))) e
 
 module _ (text : List ℕ) where
-  -- 21: no bytes
-  pub text_empty : length text ≡ 0 → text_reply text ≡ refused_of 21 0
-  unfolding text_reply
-  text_empty h = simp (eq-eqb _ _ h)
-
   module _ (some : length text ≡ 0 → ⊥) where
-    -- 21: too many bytes
-    pub text_long : most_bytes < length text → text_reply text ≡ refused_of 21 0
-    unfolding text_reply
-    text_long h = simp (ne_eqb _ _ some, lt-ltb _ _ h)
-
     module _ (short : length text ≤ most_bytes) where
       text_count : text_reply text ≡ count_then text (number_at text 0 10)
       unfolding text_reply
       text_count = simp (ne_eqb _ _ some, le-ltb _ _ short)
 
-      -- 22: a malformed count
-      pub text_malformed : number_at text 0 10 ≡ NoValue → text_reply text ≡ refused_of 22 1
-      text_malformed e = text_count ∙ ap (count_then text) e
-
-      module _ {n next : ℕ} (e : number_at text 0 10 ≡ Value n next) where
-        -- 22: a count below 1
-        pub text_low : n < 1 → text_reply text ≡ refused_of 22 1
-        text_low h = text_count ∙ ap (count_then text) e ∙ simp (lt-leb _ _ h)
-
-        -- 22: a count above 64
-        pub text_high : 1 ≤ n → most_curves < n → text_reply text ≡ refused_of 22 1
-        text_high l h = text_count ∙ ap (count_then text) e ∙ simp (le-leb _ _ l, lt-leb _ _ h)
-
+      module _ {n next : ℕ} (e : number_at text 0 10 ≡ Some (n, next)) where
         -- else the contents follow
         pub text_good : 1 ≤ n → n ≤ most_curves → text_reply text ≡ contents_from n text n [] next
         text_good l h = text_count ∙ ap (count_then text) e ∙ simp (le-leb _ _ l, le-leb _ _ h)
 
 -- what holds after a line that was read, and of a line at fault
-pub line_case : (P : BookReply → Type 0) (l : Line) (line : ℕ) (go : ℕ → BookReply) → ((p : ℕ) → l ≡ Next p → P (go p))
-    → ((f : ℕ) → l ≡ Fault f → P (refused_of f line)) → P (line_then l line go)
-line_case P (Next p) line go f g = f p refl
-line_case P (Fault m) line go f g = g m refl
+pub line_case : (P : BookReply → Type 0) (l : Line) (line : ℕ) (go : ℕ → BookReply) → ((p : ℕ) → l ≡ Ok p → P (go p))
+    → ((f : Fault) → l ≡ Err f → P (refused_of (fault_number f) line)) → P (line_then l line go)
+line_case P (Ok p) line go f g = f p refl
+line_case P (Err m) line go f g = g m refl
 
 -- what holds of every refusal, and of acceptance with at most 64 curves, holds of what the lines of a text are answered
 module _ (P : BookReply → Type 0) (refused : (number line : ℕ) → P (refused_of number line)) where
@@ -120,18 +79,18 @@ module _ (P : BookReply → Type 0) (refused : (number line : ℕ) → P (refuse
   unfolding bodies_from
   bodies_hold zero text n i at h = cond_case P (eqb at (length text)) _ _ (λ t. h) (λ t. refused 27 (2 * n + 2))
   bodies_hold (suc k) text n i at h =
-      line_case P (body_from front_numbers text at) (n + i + 2) _ (λ p e. bodies_hold k text n (i + 1) p h) (λ f e. refused f (n + i + 2))
+      line_case P (body_from front_numbers text at) (n + i + 2) _ (λ p e. bodies_hold k text n (i + 1) p h) (λ f e. refused (fault_number f) (n + i + 2))
 
   contents_hold : (k : ℕ) (text : List ℕ) (n : ℕ) (earlier : List ℕ) (at : ℕ) → P (accepted_of n) → P (contents_from k text n earlier at)
   unfolding contents_from
   contents_hold zero text n earlier at h = bodies_hold n text n 0 at h
   contents_hold (suc k) text n earlier at h =
       line_case P (contents_line text earlier at (n + length earlier + 2)) (length earlier + 2) _
-      (λ p e. contents_hold k text n (earlier ++ (at ∷ [])) p h) (λ f e. refused f (length earlier + 2))
+      (λ p e. contents_hold k text n (earlier ++ (at ∷ [])) p h) (λ f e. refused (fault_number f) (length earlier + 2))
 
   lines_hold : (text : List ℕ) (f : Field) → ((n : ℕ) → n ≤ most_curves → P (accepted_of n)) → P (count_then text f)
-  lines_hold text NoValue h = refused 22 1
-  lines_hold text (Value n next) h =
+  lines_hold text None h = refused 22 1
+  lines_hold text (Some (n, next)) h =
       cond_case P (leb 1 n && leb n most_curves) _ _
       (λ t. contents_hold n text n [] next (h n (leb-true n most_curves ((and-eq-true_iff (leb 1 n) (leb n most_curves)).0 t).1)))
       (λ t. refused 22 1)
@@ -160,9 +119,16 @@ unfolding reply_to_book
 reply_within text room =
     cond_case (Within text) (ltb room least_list) _ _ (λ t. refused_within text 28 0 (λ z. absurd (omega arith))) (λ t. text_within text)
 
--- an accepted text has at most 64 curves and at most 8192 bytes
-pub accepted_of_lem : (text : List ℕ) (r : BookReply) → r ≡ text_reply text → r.number ≡ 0 → (r.count ≤ most_curves) × (length text ≤ most_bytes)
-accepted_of_lem text r e z = let w = subst (Within text) (sym e) (text_within text) in (w.few, w.short z)
+-- no fault has number 0
+pub fault_some : (fault : Fault) → 0 < fault_number fault
+fault_some BookSize = omega arith
+fault_some CountLine = omega arith
+fault_some ContentsLine = omega arith
+fault_some WrongLine = omega arith
+fault_some TwinName = omega arith
+fault_some Body = omega arith
+fault_some Tail = omega arith
+fault_some ShortList = omega arith
 
 module _ (text : List ℕ) where
   -- 28: a list that is too short

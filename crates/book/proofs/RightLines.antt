@@ -1,12 +1,7 @@
 -- The lines that a reader found right: one more contents line, one more body, and the curves of all of them.
 -- Assumes nothing.
-use Prim.Native.Nat.{ℕ, suc, ◌+◌, ◌≤◌}
-use mathlib.Core.Path.{◌≡◌, refl, sym, ap, ◌∙◌, subst}
-use mathlib.Core.List.{List, [], ◌∷◌, ◌++◌, append_assoc, append-nil}
-use native.Mathlib.Omega.{arith}
+use Rattle.std.proofs.Common.{ℕ, suc, ◌+◌, ◌≤◌, ◌≡◌, refl, sym, ap, ◌∙◌, subst, List, [], ◌∷◌, ◌++◌, append_assoc, append-nil, arith, ℤ, length, drop}
 use native.Mathlib.Nat.{suc_inj}
-use lib.IntN.{ℤ}
-use lib.ListN.{length, drop}
 use Rattle.decimal.specs.Decimal.{Each}
 use Rattle.decimal.proofs.Choices.{each_more}
 use Rattle.book.specs.Book.{most_curves}

@@ -1,13 +1,7 @@
 -- Laws of bytes that stand at a place of a text.
 -- Assumes nothing.
-use Prim.Native.Nat.{ℕ, suc, ◌+◌, ◌≤◌, ◌<◌}
-use mathlib.Core.Path.{◌≡◌, refl, sym, ap, ◌∙◌}
-use mathlib.Core.List.{List, [], ◌∷◌, ◌++◌, append_assoc}
-use native.Mathlib.Omega.{arith}
-use native.Mathlib.Nat.{add-zero}
-use native.Mathlib.Numerals.{add-one}
-use lib.ListN.{length, drop, length-append, length-drop}
-use lib.Seq.{drop-cons, drop-drop, drop-append_seam, get_or-drop}
+use Rattle.std.proofs.Common.{ℕ, suc, ◌+◌, ◌≤◌, ◌<◌, ◌≡◌, refl, sym, ap, ◌∙◌, List, [], ◌∷◌, ◌++◌, append_assoc, arith, add-zero, add-one, length, drop, length-append, length-drop, drop-cons, drop-drop, get_or-drop}
+use lib.Seq.{drop-append_seam}
 use Rattle.book.specs.Number.{byte_at}
 use Rattle.book.specs.Printed.{number_text, contents_text}
 use Rattle.book.specs.LineMeaning.{Stands, Starts}
@@ -20,10 +14,7 @@ byte_there text at b rest e = ap (byte_at text) (sym (add-zero at)) ∙ sym (get
 pub rest_there : (text : List ℕ) (at : ℕ) (xs rest : List ℕ) → drop at text ≡ xs ++ rest → drop (at + length xs) text ≡ rest
 rest_there text at xs rest e = sym (drop-drop (length xs) at text) ∙ ap (drop (length xs)) e ∙ drop-append_seam xs rest
 
--- no bytes stand anywhere, and a byte inside the text stands at its place
-pub stands_none : (text : List ℕ) (at : ℕ) → Stands text at [] at
-stands_none text at = record { there = refl; after = omega arith }
-
+-- a byte inside the text stands at its place
 pub stands_one : (text : List ℕ) (at b : ℕ) → at < length text → byte_at text at ≡ b → Stands text at (b ∷ []) (at + 1)
 stands_one text at b h e =
     record { there = drop-cons text at 0 h ∙ ap (λ (x : ℕ). x ∷ drop (suc at) text) e ∙ rw add-one; after = refl }

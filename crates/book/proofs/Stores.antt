@@ -1,55 +1,57 @@
 -- The numbers of an accepted text as stores into a list, one after another.
 -- Assumes nothing.
-use Prim.Native.Nat.{ℕ, zero, suc, ◌+◌, ◌-◌, ◌*◌, ◌≤◌, ◌<◌}
-use mathlib.Core.Path.{◌≡◌, refl, sym, ap, ◌∙◌}
-use mathlib.Core.List.{List, ◌++◌}
-use native.Mathlib.Omega.{arith}
-use native.Mathlib.Numerals.{add-one}
-use lib.IntN.{ℤ, pos}
-use lib.ListN.{length, get_or, take, drop, set, length-append, drop_of_length-le}
-use lib.Seq.{sets, sets-eq, drop-cons, set_at, take_at, append_snoc, take-suc, length-take-le}
-use Rattle.decimal.proofs.Choices.{none_left}
+use Rattle.std.proofs.Common.{append_assoc, length-drop, drop-drop, ℕ, zero, suc, ◌+◌, ◌-◌, ◌*◌, ◌≤◌, ◌<◌, ◌≡◌, refl, sym, ap, ◌∙◌, List, ◌++◌, arith, add-one, ℤ, pos, length, get_or, take, drop, set, length-append, drop_of_length-le, drop-cons, take_at, length-take-le, Some, None}
+use borrow.Rule.Slice.PartMut.{put_mid}
+use lib.Seq.{sets, sets-eq}
 use Rattle.decimal.proofs.Stores.{sets_append}
 use Rattle.card_list.specs.List.{curve_width}
-use Rattle.book.specs.Number.{number_at, field_next}
+use Rattle.book.specs.Number.{Field, SignedField, number_at, signed_at, field_next}
 use Rattle.book.specs.Name.{name_at}
 use Rattle.book.specs.Contents.{after_heading}
-use Rattle.book.specs.Body.{front_numbers, last_at, last_values, numbers_at, after_numbers}
+use Rattle.book.specs.Body.{front_numbers, graded, surveyed, absolute_last, relative_or, last_at, last_values, numbers_at, after_numbers, LastNumbers}
 use Rattle.book.specs.Book.{most_curves, least_list, entry_at, entries_from, entries_of}
 use Rattle.book.specs.Reading.{headings_from, entries_by}
-use Rattle.book.specs.declared.text.Field.TheVariants.{Value}
-use Rattle.book.specs.declared.lines.LastNumbers.{LastNumbers}
-use Rattle.book.specs.declared.lines.LastNumbers.TheVariants.{Last, NoLast}
+
+-- numbers that are copied into a part of the list are stored there
+pub copy_sets : (xs ys vs : List ℤ) (a k : ℕ) → ys ≡ vs → length ys ≡ length (take k (drop a xs)) → a + k ≤ length xs → put_mid a k xs ys ≡ sets xs a vs
+copy_sets xs ys vs a k e n h =
+    let rest : length (drop a xs) ≡ length xs - a = length-drop a xs in
+    let size : length vs ≡ k = sym (ap length e) ∙ n ∙ length-take-le k (drop a xs) (omega arith) in
+    let past : drop k (drop a xs) ≡ drop (a + length vs) xs = rw (size, drop-drop) in
+    (λ i. take a xs ++ (e i ++ past i)) ∙ sym (append_assoc (take a xs) vs _) ∙ sym (sets-eq vs xs a (omega arith))
 
 -- one number before the unit stored
-pub stores_turn : (text : List ℕ) (at k : ℕ) (l : List ℤ) (out : ℕ) {v next : ℕ} → 0 < k → number_at text at 32 ≡ Value v next
-    → sets l out (numbers_at k text at) ≡ sets (set l out (pos v)) (out + 1) (numbers_at (k - 1) text next)
+pub stores_turn : (text : List ℕ) (at k m : ℕ) (l : List ℤ) (out : ℕ) {v next : ℕ} → k ≡ suc m → number_at text at 32 ≡ Some (v, next)
+    → sets l out (numbers_at k text at) ≡ sets (set l out (pos v)) (out + 1) (numbers_at m text next)
 unfolding numbers_at
-stores_turn text at k l out some e =
-    let p : k ≡ suc (k - 1) = omega arith in
-    ap (λ (m : ℕ). sets l out (numbers_at m text at)) p ∙ rw (e, add-one out)
+stores_turn text at k m l out more e = ap (λ (i : ℕ). sets l out (numbers_at i text at)) more ∙ rw (e, add-one out)
 
 -- the four from the unit on
-pub stores_none : (text : List ℕ) (at : ℕ) (l : List ℤ) (out k : ℕ) → k ≤ 0 → sets l out (numbers_at k text at) ≡ sets l out (numbers_at 0 text at)
-stores_none text at l out = none_left (λ k. sets l out (numbers_at k text at))
-
-pub stores_last : (text : List ℕ) (at : ℕ) (l : List ℤ) (out : ℕ) {unit mark height grade : ℤ} {next : ℕ} → last_at text at ≡ Last unit mark height grade next
-    → sets l out (numbers_at 0 text at) ≡ set (set (set (set l out unit) (out + 1) mark) (out + 2) height) (out + 3) grade
+pub stores_last : (text : List ℕ) (at : ℕ) (l : List ℤ) (out : ℕ) {numbers : List ℤ} {next : ℕ} → last_at text at ≡ Some (numbers, next)
+    → sets l out (numbers_at 0 text at) ≡ sets l out numbers
 unfolding numbers_at
-stores_last text at l out {unit} {mark} {height} {grade} e =
-    let p : suc out ≡ out + 1 = omega arith in
-    let q : suc (suc out) ≡ out + 2 = omega arith in
-    let r : suc (suc (suc out)) ≡ out + 3 = omega arith in
-    ap (λ (last : LastNumbers). sets l out (last_values last)) e
-    ∙ (λ i. set (set (set (set l out unit) (p i) mark) (q i) height) (r i) grade)
+stores_last text at l out e = ap (λ (last : LastNumbers). sets l out (last_values last)) e
 
-last_length_lem : (l : LastNumbers) → length (last_values l) ≡ 4
-last_length_lem (Last unit mark height grade next) = refl
-last_length_lem NoLast = refl
+-- the last numbers are four
+graded_four : (unit : ℕ) (height : ℤ) (f : SignedField) → length (last_values (graded unit height f)) ≡ 4
+graded_four unit height (Some (grade, next)) = refl
+graded_four unit height None = refl
+
+surveyed_four : (text : List ℕ) (unit : ℕ) (f : SignedField) → length (last_values (surveyed text unit f)) ≡ 4
+surveyed_four text unit (Some (height, next)) = graded_four unit height (signed_at text next 10)
+surveyed_four text unit None = refl
+
+absolute_four : (text : List ℕ) (f : Field) → length (last_values (absolute_last text f)) ≡ 4
+absolute_four text (Some (unit, next)) = surveyed_four text unit (signed_at text next 32)
+absolute_four text None = refl
+
+relative_four : (text : List ℕ) (at : ℕ) (f : Field) → length (last_values (relative_or text at f)) ≡ 4
+relative_four text at (Some (unit, next)) = refl
+relative_four text at None = absolute_four text (number_at text at 32)
 
 numbers_length : (k : ℕ) (text : List ℕ) (at : ℕ) → length (numbers_at k text at) ≡ k + 4
-unfolding numbers_at
-numbers_length zero text at = last_length_lem (last_at text at)
+unfolding numbers_at last_at
+numbers_length zero text at = relative_four text at (number_at text at 10)
 numbers_length (suc k) text at = ap suc (numbers_length k text (field_next at (number_at text at 32))) ∙ omega arith
 
 -- the thirteen numbers of a curve stored: place, size, and the eleven numbers of its card
@@ -104,17 +106,6 @@ pub entries_list : (text : List ℕ) (heading body n : ℕ) (l : List ℤ) → n
 entries_list text heading body n l h k =
     let e : 0 + length (entries_from n text heading body) ≡ curve_width * n = omega (arith, entries_length n text heading body) in
     sets-eq (entries_from n text heading body) l 0 (omega arith) ∙ ap (λ (m : ℕ). entries_from n text heading body ++ drop m l) e
-
--- one number copied
-pub copy_turn : (draft list : List ℤ) (i : ℕ) → i < length draft → i < length list
-    → set (take i draft ++ drop i list) i (get_or draft i (pos 0)) ≡ take (i + 1) draft ++ drop (i + 1) list
-copy_turn draft list i here there =
-    let v : ℤ = get_or draft i (pos 0) in
-    ap (λ (r : List ℤ). set (take i draft ++ r) i v) (drop-cons list i (pos 0) there)
-    ∙ set_at (take i draft) _ (drop (suc i) list) v i (length-take-le i draft (omega arith))
-    ∙ sym (append_snoc (take i draft) v (drop (suc i) list))
-    ∙ ap (λ (r : List ℤ). r ++ drop (suc i) list) (sym (take-suc draft i (pos 0) here))
-    ∙ ap (λ (k : ℕ). take k draft ++ drop k list) (sym (add-one i))
 
 -- the curves that were drafted are the draft's first 13 × n numbers
 pub drafted : (text : List ℕ) (n : ℕ) (before after list : List ℤ) → n ≤ most_curves → least_list ≤ length before

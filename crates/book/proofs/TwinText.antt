@@ -1,14 +1,8 @@
 -- A name is found at an earlier place exactly when the same name stands there.
 -- Assumes nothing.
-use Prim.Native.Nat.{ℕ, suc, ◌+◌}
-use mathlib.Core.Path.{◌≡◌, refl, sym, ap, ◌∙◌}
-use mathlib.Core.Bool.{Bool, true, false, true≢false, false≢true}
-use mathlib.Core.List.{List, [], ◌∷◌, ◌++◌}
-use native.Mathlib.Numerals.{add-one}
-use lib.ListN.{length, drop}
+use Rattle.std.proofs.Common.{ℕ, suc, ◌+◌, ◌≡◌, refl, sym, ap, ◌∙◌, Bool, true, false, true≢false, List, [], ◌∷◌, ◌++◌, add-one, length, drop, eqb, eqb-true, eq-eqb}
+use mathlib.Core.Bool.{false≢true}
 use lib.Seq.{append_snoc}
-use lib.Dec.{eqb}
-use borrow.Author.Tests.{eqb-true, eq-eqb}
 use Rattle.decimal.specs.Decimal.{Each}
 use Rattle.decimal.proofs.Choices.{cond_case}
 use Rattle.book.specs.Number.{byte_at}

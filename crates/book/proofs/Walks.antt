@@ -1,36 +1,24 @@
 -- The reader's walk over a text: whatever it replies, the lines before were right, and the number says what stands there.
 -- Assumes nothing.
-use Prim.Native.Nat.{ℕ, zero, suc, ◌+◌, ◌*◌, ◌≤◌, ◌<◌}
-use mathlib.Core.Path.{◌≡◌, refl, sym, ap, ◌∙◌, subst}
-use mathlib.Core.Bool.{Bool, true, false, cond, ◌&&◌, true≢false, and-eq-true_iff}
-use mathlib.Core.List.{List, [], ◌∷◌, ◌++◌}
-use native.Mathlib.Omega.{arith}
-use lib.IntN.{ℤ}
-use lib.ListN.{length, take, drop, length-drop, drop_of_length-le}
-use lib.Dec.{ltb, leb, eqb, lit<}
-use borrow.Author.Tests.{leb-true, le-leb, ltb-true, ltb-false, eqb-true, eqb-false, ne_eqb}
+use Rattle.std.proofs.Common.{ℕ, zero, suc, ◌+◌, ◌*◌, ◌≤◌, ◌<◌, ◌≡◌, refl, sym, ap, ◌∙◌, subst, Bool, true, false, cond, ◌&&◌, true≢false, List, [], ◌∷◌, ◌++◌, arith, ℤ, length, take, drop, length-drop, drop_of_length-le, ltb, leb, eqb, lit<, leb-true, le-leb, ltb-true, ltb-false, eqb-true, ne_eqb, Some, None, Ok, Err}
+use mathlib.Core.Bool.{and-eq-true_iff}
+use borrow.Author.Tests.{eqb-false}
 use Rattle.decimal.proofs.Choices.{cond_case}
-use Rattle.book.specs.Number.{number_at, field_value}
+use Rattle.book.specs.Number.{number_at, field_value, Field}
 use Rattle.book.specs.Name.{twin_at}
-use Rattle.book.specs.Contents.{heading_at, contents_line_of, contents_line}
+use Rattle.book.specs.Contents.{heading_at, contents_line_of, contents_line, Heading, Line}
 use Rattle.book.specs.Body.{front_numbers, body_from, numbers_at}
-use Rattle.book.specs.Book.{most_curves, most_bytes, accepted_of, refused_of, line_then, bodies_from, contents_from, count_then, text_reply}
+use Rattle.book.specs.Book.{fault_number, most_curves, most_bytes, accepted_of, refused_of, line_then, bodies_from, contents_from, count_then, text_reply, BookReply}
 use Rattle.book.specs.Printed.{number_text, contents_text, body_text}
 use Rattle.book.specs.LineMeaning.{Starts, Named, LineTheorem}
 use Rattle.book.specs.Reasons.{Right, AtContents, SomeContents, RightSize, WrongSize, SaysOfLines, SaysOfText}
-use Rattle.book.specs.declared.text.Field.{Field}
-use Rattle.book.specs.declared.text.Field.TheVariants.{Value, NoValue}
-use Rattle.book.specs.declared.lines.Heading.{Heading}
-use Rattle.book.specs.declared.lines.Heading.TheVariants.{Entry, NoEntry}
-use Rattle.book.specs.declared.lines.Line.{Line}
-use Rattle.book.specs.declared.lines.Line.TheVariants.{Next, Fault}
-use Rattle.book.specs.declared.BookReply.{BookReply}
+use Rattle.book.specs.declared.Fault.{Fault}
 use Rattle.book.proofs.LineLaws.{Faults26, body_26}
 use Rattle.book.proofs.Replies.{line_case}
-use Rattle.book.proofs.Outcomes.{IsValue, IsEntry, IsNext}
 use Rattle.book.proofs.Standing.{starts_stands, stands_starts, name_starts, stands_in}
 use Rattle.book.proofs.Lists.{length_more, named_none, named_more, named_length}
 use Rattle.book.proofs.RightLines.{right_count, right_name, right_body, right_book}
+use Rattle.book.specs.declared.Fault.TheVariants.{WrongLine, TwinName}
 
 -- what a reply says of the lines of a text
 abbrev MeantBy : List ℕ → BookReply → Type 0
@@ -62,12 +50,12 @@ module _ (lines : LineTheorem) (text : List ℕ) where
       subst (λ (i : ℕ). MeantBy text (bodies_from k text n i p)) more
       (bodies_meant k n names (bodies ++ (numbers ∷ [])) p (right_body text n names at p bodies numbers right r.0 r.1) all
       (omega arith) (stands_in text at (body_text numbers) p r.1 inside)))
-      (λ f e. subst (SaysOfLines text (n + length bodies + 2)) (sym (subst Faults26 e (body_26 front_numbers text at))) (record {
+      (λ f e. subst (λ (fault : Fault). SaysOfLines text (n + length bodies + 2) (fault_number fault)) (sym (subst Faults26 e (body_26 front_numbers text at))) (record {
         before = record { n = n; names = names; bodies = bodies; rest = drop at text; right = right; all = all };
         one = omega arith;
         place = refl;
         none = λ numbers eight s.
-            subst IsNext (sym (lines.body_reads text at numbers (at + length (body_text numbers)) eight (starts_stands text at (body_text numbers) s)).0 ∙ e) tt;
+            absurd (cc (e, (lines.body_reads text at numbers (at + length (body_text numbers)) eight (starts_stands text at (body_text numbers) s)).0));
       }))
 
   -- one contents line
@@ -94,8 +82,8 @@ module _ (lines : LineTheorem) (text : List ℕ) where
     GoesOn go = (name : List ℕ) (next : ℕ) → Right text n (names ++ (name ∷ [])) [] (drop next text)
         → Named text (earlier ++ (at ∷ [])) (names ++ (name ∷ [])) → next ≤ length text → MeantBy text (go next)
 
-    entry_meant : (go : ℕ → BookReply) → GoesOn go → (size v next : ℕ) → heading_at text at ≡ Entry size v next
-        → MeantBy text (line_then (contents_line_of text earlier at due (Entry size v next)) (length earlier + 2) go)
+    entry_meant : (go : ℕ → BookReply) → GoesOn go → (size v next : ℕ) → heading_at text at ≡ Some (size, v, next)
+        → MeantBy text (line_then (contents_line_of text earlier at due (Some (size, v, next))) (length earlier + 2) go)
     entry_meant go on size v next e =
         let r = lines.heading_read text at size v next e in
         let name : List ℕ = take size (drop at text) in
@@ -105,10 +93,10 @@ module _ (lines : LineTheorem) (text : List ℕ) where
         let twin : (b : Bool) → twin_at text earlier at size ≡ b → twin_at text earlier at (length name) ≡ b =
         λ b t. ap (twin_at text earlier at) r.0 ∙ t in
         cond_case (λ (l : Line). MeantBy text (line_then l (length earlier + 2) go)) (eqb v due)
-        (cond (twin_at text earlier at size) (Fault 25) (Next next)) (Fault 24)
+        (cond (twin_at text earlier at size) (Err TwinName) (Ok next)) (Err WrongLine)
         (λ t.
         let v-due : v ≡ n + length names + 2 = eqb-true _ _ t ∙ due_line in
-        cond_case (λ (l : Line). MeantBy text (line_then l (length earlier + 2) go)) (twin_at text earlier at size) (Fault 25) (Next next)
+        cond_case (λ (l : Line). MeantBy text (line_then l (length earlier + 2) go)) (twin_at text earlier at size) (Err TwinName) (Ok next)
         (λ u. record { found = contents; due = v-due; twin = lines.twin_found text earlier names at name named r.1.0 blank (twin true u) })
         (λ u. on name next
         (right_name text n names at next name v right r.1.0 v-due (lines.twin_none text earlier names at name named r.1.0 blank (twin false u)) r.1.1.1)
@@ -118,12 +106,12 @@ module _ (lines : LineTheorem) (text : List ℕ) where
 
     heading_meant : (go : ℕ → BookReply) → GoesOn go → (h : Heading) → heading_at text at ≡ h
         → MeantBy text (line_then (contents_line_of text earlier at due h) (length earlier + 2) go)
-    heading_meant go on NoEntry e = record {
+    heading_meant go on None e = record {
       before = here;
       none = λ name v known small s.
-          subst IsEntry (sym (lines.heading_reads text at name v (at + length (contents_text name v)) known small (starts_stands text at (contents_text name v) s)) ∙ e) tt;
+          absurd (cc (e, lines.heading_reads text at name v (at + length (contents_text name v)) known small (starts_stands text at (contents_text name v) s)));
     }
-    heading_meant go on (Entry size v next) e = entry_meant go on size v next e
+    heading_meant go on (Some (size, v, next)) e = entry_meant go on size v next e
 
     contents_step : (go : ℕ → BookReply) → GoesOn go → MeantBy text (line_then (contents_line text earlier at due) (length earlier + 2) go)
     unfolding contents_line
@@ -139,13 +127,13 @@ module _ (lines : LineTheorem) (text : List ℕ) where
       contents_step n names earlier at right named (omega arith) inside _
       (λ name next r m i. contents_meant k n (names ++ (name ∷ [])) (earlier ++ (at ∷ [])) next r m (omega (arith, length_more names name)) i)
 
-  count_reads : (n : ℕ) → n ≤ most_curves → Starts text (number_text n 10) → number_at text 0 10 ≡ Value n (0 + length (number_text n 10))
+  count_reads : (n : ℕ) → n ≤ most_curves → Starts text (number_text n 10) → number_at text 0 10 ≡ Some (n, 0 + length (number_text n 10))
   count_reads n few s = lines.number_reads text 0 10 n _ refl (omega arith) (starts_stands text 0 (number_text n 10) s)
 
   -- the count line, and all after it
   count_meant : (f : Field) → number_at text 0 10 ≡ f → MeantBy text (count_then text f)
-  count_meant NoValue e = record { first = refl; none = λ n some few s. subst IsValue (sym (count_reads n few s) ∙ e) tt }
-  count_meant (Value n next) e =
+  count_meant None e = record { first = refl; none = λ n some few s. absurd (cc (e, count_reads n few s)) }
+  count_meant (Some (n, next)) e =
       let r = lines.number_read text 0 10 n next (lit< tt) e in
       cond_case (MeantBy text) (leb 1 n && leb n most_curves) (contents_from n text n [] next) (refused_of 22 1)
       (λ t.

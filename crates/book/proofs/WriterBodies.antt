@@ -1,41 +1,32 @@
 -- The numbers of a card and its body: what the writer's tests of them say, which of them a body shows, and the bytes of each.
 -- Assumes nothing.
 use Prim.Native.Nat.{ℕ, zero, suc, ◌+◌, ◌-◌, ◌≤◌, ◌<◌}
-use mathlib.Core.Path.{◌≡◌, refl, sym, ap, ap₂, ◌∙◌, subst}
-use mathlib.Core.Bool.{Bool, true, false, cond, not, ◌||◌, true≢false, false≢true}
+use mathlib.Core.Path.{◌≡◌, refl, sym, ap, ◌∙◌, subst}
+use mathlib.Core.Bool.{Bool, true, false, cond, ◌||◌, true≢false, false≢true}
 use mathlib.Core.List.{List, [], ◌∷◌, ◌++◌}
 use native.Mathlib.Omega.{arith}
 use native.Mathlib.Numerals.{add-one}
-use lib.Dec.{ltb, eqb, leb-suc-suc}
+use lib.Dec.{ltb}
 use lib.IntN.{ℤ, pos, negsuc, nat_abs}
 use lib.Signed.{lt_z}
 use lib.ListN.{length, take, drop, length-append, length-drop, take-append-drop, drop_of_length-le, get_or-append}
 use lib.Seq.{drop-cons, get_or-take, get_or-append-add, length-take-le}
-use borrow.Author.Tests.{ltb-true, ltb-false, lt-ltb, le-ltb, eqb-true, eq-eqb, ne_eqb, not-false}
-use mir.Syntax.{w32}
-use mir.Val.{SFits, of_z}
-use mir.Facts.{sfits_lit}
+use borrow.Author.Tests.{ltb-true, ltb-false, le-ltb, not-false}
 use Rattle.decimal.specs.Decimal.{Each, digits_text, count_text, signed_text}
 use Rattle.decimal.proofs.Digits.{text_wider, digits_most}
 use Rattle.decimal.proofs.Choices.{cond_case, or-none, neither_met, second_met, both_met}
 use Rattle.card.specs.Words.{◌above◌}
 use Rattle.card_list.specs.List.{number_of}
-use Rattle.card_list.proofs.ListLaws.{same_bits}
 use Rattle.book.specs.Body.{card_numbers, end_of}
 use Rattle.book.specs.Printed.{IsNumber, IsCount, IsSigned, IsDatum, IsBody, number_text, signed_number_text, numbers_text, eight_of, mark_of, height_of, grade_of, is_nought, shown_numbers, body_text}
 use Rattle.book.specs.Writing.{has_long, wrong_mark, is_below, has_below, beside_nought, is_unfit}
-use Rattle.book.proofs.Keys.{one_test}
+use Rattle.std.proofs.lemmas.List.Recursion.{same_from_clauses}
+use Rattle.std.specs.List.{list_any}
+use Rattle.std.specs.Prelude.{None, Some}
+use Rattle.book.specs.WriterSteps.{body_size}
+use mathlib.Core.Logic.{◌⊎◌, inl, inr}
 
--- ---- tests of a signed number: y is what is read back of z
--- more than seven digits, above nought or below
-pub long_above : {y z : ℤ} → y ≡ z → lt_z (pos 9999999) y ≡ true → true ≡ nat_abs z above 9999999
-long_above {y = pos n} e t = sym t ∙ ap (λ (x : ℤ). nat_abs x above 9999999) e
-long_above {y = negsuc n} e t = absurd (false≢true t)
-
-pub long_below : {y z : ℤ} → y ≡ z → lt_z (pos 9999999) y ≡ false → lt_z y (negsuc 9999998) ≡ nat_abs z above 9999999
-long_below {y = pos n} e t = sym t ∙ ap (λ (x : ℤ). nat_abs x above 9999999) e
-long_below {y = negsuc n} e t = sym (leb-suc-suc 9999999 n) ∙ ap (λ (x : ℤ). nat_abs x above 9999999) e
-
+-- ---- tests of a signed number
 -- below nought
 pub below_is : (z : ℤ) → lt_z z (pos 0) ≡ is_below z
 below_is (pos n) = le-ltb n 0 (omega arith)
@@ -52,42 +43,21 @@ not_nought (pos zero) h = absurd (h refl)
 not_nought (pos (suc n)) h = refl
 not_nought (negsuc n) h = refl
 
-nought_bits : {z : ℤ} → SFits w32 z → eqb (of_z w32 z) 0 ≡ is_nought z
-nought_bits {z} f =
-    one_test _ _
-    (λ t. let e : z ≡ pos 0 = same_bits f (sfits_lit tt) (eqb-true (of_z w32 z) 0 t) in ap is_nought e)
-    (λ t. eq-eqb _ _ (ap (of_z w32) (nought_is z t)))
+-- mark, height and grade
+abbrev pub wrong_datum : (mark height grade : ℤ) → Bool
+wrong_datum mark height grade = wrong_mark mark || beside_nought mark height grade
 
--- mark, height and grade: a height beside mark 0, a grade beside it or none, and another mark
-module _ (mark height grade : ℤ) where
-  abbrev pub wrong_datum : Bool
-  wrong_datum = wrong_mark mark || beside_nought mark height grade
+-- one of several numbers is too long, or below nought
+pub any_long : (numbers : List ℤ) → list_any (λ z. nat_abs z above 9999999) numbers ≡ has_long numbers
+unfolding has_long
+any_long = same_from_clauses _ has_long (λ z b. nat_abs z above 9999999 || b) refl (λ z zs. refl) (λ z zs. refl)
 
-  pub datum_height : mark ≡ pos 0 → (height ≡ pos 0 → ⊥) → true ≡ wrong_datum
-  datum_height e h = sym (ap (λ (m : ℤ). wrong_mark m || beside_nought m height grade) e ∙ rw (not_nought height h))
-
-  pub datum_grade : SFits w32 grade → mark ≡ pos 0 → height ≡ pos 0 → not (eqb (of_z w32 grade) 0) ≡ wrong_datum
-  datum_grade f e h = ap not (nought_bits f) ∙ sym (ap₂ (λ (m x : ℤ). wrong_mark m || beside_nought m x grade) e h)
-
-pub datum_mark : (mark height grade : ℤ) → SFits w32 mark → (mark ≡ pos 0 → ⊥) → not (eqb (of_z w32 mark) 1) ≡ wrong_datum mark height grade
-datum_mark (pos zero) height grade f h = absurd (h refl)
-datum_mark (pos (suc zero)) height grade f h = refl
-datum_mark (pos (suc (suc n))) height grade f h = rw (ne_eqb (suc (suc n)) 1 (λ e. omega arith), lt-ltb 1 (suc (suc n)) (omega arith))
-datum_mark (negsuc n) height grade f h = ap not (ne_eqb _ _ (λ e. other (same_bits f (sfits_lit tt) e)))
-  where
-    other : negsuc n ≡ pos 1 → ⊥
-    other e = true≢false (ap is_below e)
+pub any_below : (numbers : List ℤ) → list_any (λ z. lt_z z (pos 0)) numbers ≡ has_below numbers
+unfolding has_below
+any_below = same_from_clauses _ has_below (λ z b. lt_z z (pos 0) || b) refl (λ z zs. refl) (λ z zs. rw below_is)
 
 -- ---- numbers of a list, one by one
 module _ (numbers : List ℤ) (i : ℕ) where
-  pub long_none : length numbers ≤ i → has_long (drop i numbers) ≡ false
-  unfolding has_long
-  long_none h = ap has_long (drop_of_length-le numbers h)
-
-  pub below_none : length numbers ≤ i → has_below (drop i numbers) ≡ false
-  unfolding has_below
-  below_none h = ap has_below (drop_of_length-le numbers h)
-
   pub numbers-none : length numbers ≤ i → numbers_text (drop i numbers) ≡ []
   unfolding numbers_text
   numbers-none h = ap numbers_text (drop_of_length-le numbers h)
@@ -95,14 +65,6 @@ module _ (numbers : List ℤ) (i : ℕ) where
   module _ (inside : i < length numbers) where
     abbrev pub here : ℤ
     here = number_of numbers i
-
-    pub long_turn : has_long (drop i numbers) ≡ (nat_abs here above 9999999 || has_long (drop (i + 1) numbers))
-    unfolding has_long
-    long_turn = ap has_long (drop-cons numbers i (pos 0) inside) ∙ rw add-one
-
-    pub below_turn : has_below (drop i numbers) ≡ (is_below here || has_below (drop (i + 1) numbers))
-    unfolding has_below
-    below_turn = ap has_below (drop-cons numbers i (pos 0) inside) ∙ rw add-one
 
     -- the text of a number, and of those after it
     abbrev pub here_text : List ℕ
@@ -148,18 +110,6 @@ unfolding signed_text
 signed_short (pos n) h = omega (arith, ap length (number_digits n h), digits_most 7 n)
 signed_short (negsuc n) h = omega (arith, ap length (number_digits (suc n) h), digits_most 7 (suc n))
 
--- a number has bytes, and so have numbers
-signed_some : (z : ℤ) (end : ℕ) → 1 ≤ length (signed_number_text z end)
-unfolding signed_number_text
-signed_some (pos n) end = omega (arith, length-append (digits_text 7 n) (end ∷ []))
-signed_some (negsuc n) end = omega arith
-
-numbers_some : (numbers : List ℤ) → 1 ≤ length numbers → 1 ≤ length (numbers_text numbers)
-unfolding numbers_text
-numbers_some [] h = absurd (omega arith)
-numbers_some (z ∷ numbers) h =
-    omega (arith, length-append (signed_number_text z (end_of (length numbers))) (numbers_text numbers), signed_some z (end_of (length numbers)))
-
 -- ---- the numbers that a body shows
 pub body_shows : (numbers : List ℤ) → body_text numbers ≡ numbers_text (shown_numbers numbers)
 unfolding body_text
@@ -172,10 +122,6 @@ module _ (numbers : List ℤ) (eleven : length numbers ≡ card_numbers) where
   eight_long : length (eight_of numbers) ≡ 8
   eight_long = length-take-le 8 numbers (omega (arith, eleven))
 
-  shown_least : 8 ≤ length shown
-  unfolding shown_numbers
-  shown_least = omega (arith, length-append (eight_of numbers) (cond (is_nought (mark_of numbers)) [] (height_of numbers ∷ grade_of numbers ∷ [])), eight_long)
-
   -- the eight, or ten
   module _ (mark : mark_of numbers ≡ pos 0) where
     pub shown_relative : 8 ≡ length shown
@@ -187,10 +133,6 @@ module _ (numbers : List ℤ) (eleven : length numbers ≡ card_numbers) where
     unfolding shown_numbers
     shown_absolute =
         sym (rw (not_nought (mark_of numbers) mark) (length-append (eight_of numbers) (height_of numbers ∷ grade_of numbers ∷ []) ∙ omega (arith, eight_long)))
-
-  -- so a body has bytes
-  pub body_some : 1 ≤ length (body_text numbers)
-  body_some = omega (arith, ap length (body_shows numbers), numbers_some shown (omega (arith, shown_least)))
 
   -- one of the eight
   pub shown_front : (i : ℕ) → i < 8 → number_of numbers i ≡ number_of shown i
@@ -237,18 +179,19 @@ module _ (numbers : List ℤ) (eleven : length numbers ≡ card_numbers) where
 -- ---- numbers that a body has
 module _ (numbers : List ℤ) where
   -- by the tests in the order of the code
-  pub unfit_long : has_long numbers ≡ true → true ≡ is_unfit numbers
-  unfolding is_unfit
-  unfit_long t = sym (rw t)
-
-  module _ (short : has_long numbers ≡ false) where
-    pub unfit_below : has_below (eight_of numbers) ≡ true → true ≡ is_unfit numbers
+  module _ {long below : Bool} (l : long ≡ list_any (λ z. nat_abs z above 9999999) numbers) (m : below ≡ list_any (λ z. lt_z z (pos 0)) (eight_of numbers)) where
+    pub unfit_numbers : (long ≡ true) ⊎ ((long ≡ false) × (below ≡ true)) → is_unfit numbers ≡ true
     unfolding is_unfit
-    unfit_below t = sym (rw (short, t) (second_met (wrong_mark (mark_of numbers)) true refl))
+    unfit_numbers (inl t) = rw (sym (l ∙ any_long numbers) ∙ t)
+    unfit_numbers (inr f) = rw (sym (l ∙ any_long numbers) ∙ f.0, sym (m ∙ any_below (eight_of numbers)) ∙ f.1) (second_met (wrong_mark (mark_of numbers)) true refl)
 
-    pub unfit_datum : {r : Bool} → has_below (eight_of numbers) ≡ false → r ≡ wrong_datum (mark_of numbers) (height_of numbers) (grade_of numbers) → r ≡ is_unfit numbers
+    pub unfit_datum : {r : Bool} → (long ≡ false) × (below ≡ false) → r ≡ wrong_datum (mark_of numbers) (height_of numbers) (grade_of numbers) → r ≡ is_unfit numbers
     unfolding is_unfit
-    unfit_datum t e = e ∙ sym (rw (short, t))
+    unfit_datum f e = e ∙ sym (rw (sym (l ∙ any_long numbers) ∙ f.0, sym (m ∙ any_below (eight_of numbers)) ∙ f.1))
+
+  pub body_size_none : is_unfit numbers ≡ true → None ≡ body_size numbers
+  unfolding body_size
+  body_size_none t = rw t
 
   -- the four reasons for which none has them
   fit_parts : is_unfit numbers ≡ false
@@ -263,6 +206,25 @@ module _ (numbers : List ℤ) where
 
   pub fit_short : is_unfit numbers ≡ false → has_long numbers ≡ false
   fit_short e = (fit_parts e).0
+
+-- ---- the bytes of a body, number by number
+module _ (numbers : List ℤ) (eleven : length numbers ≡ card_numbers) (fit : is_unfit numbers ≡ false) where
+  -- a number that is shown takes its own and the byte that ends it
+  pub size_turn : (i : ℕ) {size : ℕ} → i < length (shown_numbers numbers) → size ≡ length (signed_text (number_of (shown_numbers numbers) i))
+      → (size ≤ 8) × (length (numbers_text (drop i (shown_numbers numbers))) ≡ size + 1 + length (numbers_text (drop (i + 1) (shown_numbers numbers))))
+  size_turn i some e =
+      let z : ℤ = number_of (shown_numbers numbers) i in
+      let small : IsSigned z = shown_signed numbers eleven (fit_short numbers fit) i some in (
+        omega (arith, e, signed_short z small),
+        omega (arith, e, numbers_size_turn (shown_numbers numbers) i some, signed_length z (end_of (length (shown_numbers numbers) - (i + 1))) small),
+      )
+
+  pub body_size_whole : (i : ℕ) {size : ℕ} → length (shown_numbers numbers) ≤ i
+      → size + length (numbers_text (drop i (shown_numbers numbers))) ≡ length (numbers_text (shown_numbers numbers)) → Some size ≡ body_size numbers
+  unfolding body_size body_text
+  body_size_whole i {size} all e =
+      let whole : size ≡ length (body_text numbers) = omega (arith, ap length (numbers-none (shown_numbers numbers) i all)) in
+      rw (fit, whole)
 
 -- numbers that are not below nought and have at most seven digits
 counts_are : (numbers : List ℤ) → has_long numbers ≡ false → has_below numbers ≡ false → Each IsCount numbers

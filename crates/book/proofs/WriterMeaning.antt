@@ -18,21 +18,19 @@ use Rattle.card.specs.Table.{reply_by}
 use Rattle.card_list.specs.declared.NamePlace.{NamePlace}
 use Rattle.card_list.specs.List.{curve_width, name_place_in, name_bytes}
 use Rattle.book.specs.Body.{card_numbers}
-use Rattle.book.specs.Book.{most_curves, least_list, accepted_of, reply_to_book, list_after}
+use Rattle.book.specs.Book.{BookReply, most_curves, least_list, accepted_of, reply_to_book, list_after}
 use Rattle.book.specs.Printed.{Curve, IsName, IsBody, IsBook, Differs, NoTwins, number_text, contents_text, contents_texts, names_of, bodies_of, book_text}
 use Rattle.book.specs.LineMeaning.{Stands}
 use Rattle.book.specs.Meaning.{entries, book_entries, curve_in, curves_in}
 use Rattle.book.specs.Writing.{curve_count, curves_of, wrong_length, is_wrong, some_wrong, same_name, is_one_of, has_twins, is_unfit, some_unfit, wrong_list, twinned, unwritable, writer_number, reply_to_list, buffer_after}
-use Rattle.book.specs.WriterSteps.{bodies_in}
 use Rattle.book.specs.Written.{RightList, WrongList, TwinList, RightCards, Unwritable, Fits, written, front_of, own_curve, WriterTheorem}
-use Rattle.book.specs.declared.BookReply.{BookReply}
 use Rattle.book.proofs.Standing.{stands_front, stands_back}
 use Rattle.book.proofs.BookText.{contents_stand, contents_place, bodies_place}
 use Rattle.book.proofs.BookMeaning.{meaning}
 use Rattle.book.proofs.WriterBodies.{fit_body, body_fit}
 use Rattle.book.proofs.WriterNames.{right_stands, stands_right, same_is, same_self}
 use Rattle.book.proofs.WriterReplies.{length_of, given, number_is, refused, reply_is, buffer_is}
-use Rattle.book.proofs.WriterLines.{place_next, wrong_at, curves_count, curves_bodies}
+use Rattle.book.proofs.WriterLines.{bodies_in, place_next, wrong_at, curves_count, curves_bodies}
 
 -- ---- the curves of a list are its own
 own_at : (n : ℕ) (names : List ℕ) (list : List ℤ) (i : ℕ) (other : Curve) → i < n → get_or (curves_in n names list) i other ≡ own_curve list names i

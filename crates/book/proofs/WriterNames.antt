@@ -1,9 +1,10 @@
 -- The names of a list of curves: that a test of the writer is met says of each name, and of two, what the words say.
 -- Assumes nothing.
-use Prim.Native.Nat.{ℕ, zero, suc, ◌+◌, ◌≤◌, ◌<◌}
+use Prim.Native.Nat.{ℕ, zero, suc, ◌+◌, ◌-◌, ◌≤◌, ◌<◌}
 use mathlib.Core.Path.{◌≡◌, refl, sym, ap, ap₂, ◌∙◌, subst}
-use mathlib.Core.Bool.{Bool, true, false, cond, not, ◌||◌, false≢true}
-use mathlib.Core.List.{List, [], ◌∷◌}
+use mathlib.Core.Bool.{Bool, true, false, not, ◌||◌, false≢true}
+use mathlib.Core.List.{List, [], ◌∷◌, map}
+use mathlib.Core.Logic.{◌⊎◌}
 use native.Mathlib.Omega.{arith}
 use native.Mathlib.Numerals.{add-one}
 use lib.ListN.{length, get_or, take, drop, length-drop, drop_of_length-le}
@@ -11,17 +12,20 @@ use lib.Seq.{drop-cons, get_or-drop, get_or-take, ext_get_or, length-take-le}
 use lib.Dec.{eqb}
 use lib.IntN.{ℤ}
 use borrow.Author.Tests.{ltb-false, le-ltb, eqb-true, eq-eqb, not-false}
+use Rattle.std.specs.Prelude.{None, Some}
+use Rattle.std.proofs.lemmas.List.{take_all}
+use Rattle.std.specs.List.{list_any}
 use Rattle.decimal.specs.Decimal.{Each}
-use Rattle.decimal.proofs.Choices.{cond_case, or-none, neither_met, both_met, not_met}
+use Rattle.decimal.proofs.Choices.{or-none, neither_met, both_met, not_met}
 use Rattle.card_list.specs.declared.NamePlace.{NamePlace}
-use Rattle.card_list.specs.List.{curve_width, name_place_in, name_bytes}
+use Rattle.card_list.specs.List.{name_place_in, name_bytes}
 use Rattle.book.specs.Number.{byte_at}
 use Rattle.book.specs.Name.{is_name_byte, name_run}
 use Rattle.book.specs.Printed.{names_of}
-use Rattle.book.specs.Meaning.{curve_in, curves_in}
-use Rattle.book.specs.Reading.{key_from, run_at, among}
-use Rattle.book.specs.Writing.{has_other, is_malformed, is_outside, is_wrong, some_wrong, same_name, is_one_of, has_twins}
-use Rattle.book.specs.WriterSteps.{place_key, name_read, keys_in, twin_keys}
+use Rattle.book.specs.Meaning.{curve_in}
+use Rattle.book.specs.Reading.{key_from, run_at}
+use Rattle.book.specs.Writing.{has_other, is_malformed, is_outside, is_wrong, same_name, is_one_of, has_twins}
+use Rattle.book.specs.WriterSteps.{place_key, key_read, any_wrong, keys_of, twin_keys}
 use Rattle.book.specs.Written.{NameStands}
 use Rattle.book.specs.declared.text.ReadName.{ReadName}
 use Rattle.book.proofs.Names.{run_in}
@@ -85,19 +89,13 @@ module _ (names : List ℕ) (at : NamePlace) where
   right_run : is_wrong names at ≡ false → run ≡ at.size
   right_run e = let s = right_stands names at e in run_full names at.size at.place s.inside s.name.bytes
 
-  -- so one that begins past the bytes, has more than eight, or is not counted whole is wrong
-  pub past_wrong : length names < at.place → is_wrong names at ≡ true
-  past_wrong h = not_met _ (λ e. omega (arith, (right_stands names at e).inside))
+  -- so one without bytes, with more than eight, or that begins past the bytes is wrong
+  pub unread_wrong : (at.size < 1) ⊎ (((1 ≤ at.size) × (8 < at.size)) ⊎ ((1 ≤ at.size) × (at.size ≤ 8) × (length names < at.place))) → is_wrong names at ≡ true
+  unread_wrong h = not_met _ (λ e. let s = right_stands names at e in let n = name_size names at s.inside in omega (arith, n, s.inside, s.name.some, s.name.short))
 
-  pub long_wrong : 8 < at.size → is_wrong names at ≡ true
-  long_wrong h = not_met _ (λ e. let s = right_stands names at e in omega (arith, name_size names at s.inside, s.name.short))
-
+  -- and one that is not counted whole
   pub stopped_wrong : run < at.size → is_wrong names at ≡ true
   stopped_wrong h = not_met _ (λ e. omega (arith, right_run e))
-
-  -- one without bytes too
-  empty_wrong : at.size ≡ 0 → is_wrong names at ≡ true
-  empty_wrong z = not_met _ (λ e. let s = right_stands names at e in omega (arith, name_size names at s.inside, s.name.some))
 
   -- and one of one to eight bytes that is counted whole is not
   run_right : at.place ≤ length names → at.size ≤ 8 → at.size ≤ run → 1 ≤ at.size → is_wrong names at ≡ false
@@ -159,29 +157,24 @@ module _ (names : List ℕ) (a b : NamePlace) (p : is_wrong names a ≡ false) (
       (λ t. rw (sym (key_name (sym (eqb-true _ _ t)))) (same_self (name_bytes names a)))
       (λ t. eq-eqb _ _ (sym (name_key (same_is _ _ t))))
 
--- ---- the names of a list
+-- ---- the names of curves
 -- a key stands among those of some names exactly when its name does
-among_names : (n : ℕ) (names : List ℕ) (list : List ℤ) (at : NamePlace) → is_wrong names at ≡ false → some_wrong n names list ≡ false
-    → among (keys_in n names list) (place_key names at) ≡ is_one_of (name_bytes names at) (names_of (curves_in n names list))
-unfolding among keys_in some_wrong is_one_of curves_in curve_in
-among_names zero names list at p e = refl
-among_names (suc n) names list at p e =
+among_names : (names : List ℕ) (curves : List (List ℤ)) (at : NamePlace) → is_wrong names at ≡ false → any_wrong names curves ≡ false
+    → list_any (λ key. eqb key (place_key names at)) (keys_of names curves) ≡ is_one_of (name_bytes names at) (names_of (map (curve_in names) curves))
+unfolding keys_of any_wrong is_one_of curve_in
+among_names names [] at p e = refl
+among_names names (curve ∷ curves) at p e =
     let both = or-none _ _ e in
-    rw (key_test names at (name_place_in list 0) p both.0, among_names n names (drop curve_width list) at p both.1)
-    (or-cond (same_name (name_bytes names at) (name_bytes names (name_place_in list 0))) _)
-  where
-    or-cond : (a b : Bool) → cond a true b ≡ (a || b)
-    or-cond true b = refl
-    or-cond false b = refl
+    rw (key_test names at (name_place_in curve 0) p both.0, among_names names curves at p both.1)
 
 -- so two keys are the same exactly when two names are
-pub keys_twins : (n : ℕ) (names : List ℕ) (list : List ℤ) → some_wrong n names list ≡ false
-    → twin_keys (keys_in n names list) ≡ has_twins (names_of (curves_in n names list))
-unfolding twin_keys keys_in some_wrong has_twins curves_in curve_in
-keys_twins zero names list e = refl
-keys_twins (suc n) names list e =
+pub keys_twins : (names : List ℕ) (curves : List (List ℤ)) → any_wrong names curves ≡ false
+    → twin_keys (keys_of names curves) ≡ has_twins (names_of (map (curve_in names) curves))
+unfolding twin_keys keys_of any_wrong has_twins curve_in
+keys_twins names [] e = refl
+keys_twins names (curve ∷ curves) e =
     let both = or-none _ _ e in
-    rw (among_names n names (drop curve_width list) (name_place_in list 0) both.0 both.1, keys_twins n names (drop curve_width list) both.1)
+    rw (among_names names curves (name_place_in curve 0) both.0 both.1, keys_twins names curves both.1)
 
 -- ---- keys one by one
 module _ (keys : List ℕ) (i : ℕ) where
@@ -190,52 +183,29 @@ module _ (keys : List ℕ) (i : ℕ) where
   unfolding twin_keys
   twin_past h = rw (drop_of_length-le keys h)
 
-  -- a key that stands again behind, and one that does not
-  module _ (some : i < length keys) where
-    pub twin_here : among (drop (i + 1) keys) (get_or keys i 0) ≡ true → twin_keys (drop i keys) ≡ true
-    unfolding twin_keys
-    twin_here t = ap twin_keys (drop-cons keys i 0 some) ∙ ap (λ (b : Bool). b || twin_keys (drop (suc i) keys)) (rw (add-one i) at t)
-
-    pub twin_turn : among (drop (i + 1) keys) (get_or keys i 0) ≡ false → twin_keys (drop i keys) ≡ twin_keys (drop (i + 1) keys)
-    unfolding twin_keys
-    twin_turn t =
-        ap twin_keys (drop-cons keys i 0 some)
-        ∙ ap (λ (b : Bool). b || twin_keys (drop (suc i) keys)) (rw (add-one i) at t)
-        ∙ ap (λ (k : ℕ). twin_keys (drop k keys)) (sym (add-one i))
+  -- a key, and those behind it
+  pub twin_turn : {r : Bool} → i < length keys
+      → r ≡ list_any (λ key. eqb key (get_or keys i 0)) (take (length keys - (i + 1)) (drop (i + 1) keys))
+      → twin_keys (drop i keys) ≡ (r || twin_keys (drop (i + 1) keys))
+  unfolding twin_keys
+  twin_turn some e =
+      let rest = take_all (length keys - (i + 1)) (drop (i + 1) keys) (omega (arith, length-drop (i + 1) keys)) in
+      let cut : drop i keys ≡ get_or keys i 0 ∷ drop (i + 1) keys = drop-cons keys i 0 some ∙ rw add-one in
+      ap twin_keys cut ∙ ap (λ (b : Bool). b || twin_keys (drop (i + 1) keys)) (sym (e ∙ rw rest))
 
 -- ---- a name as it is read
-module _ (names : List ℕ) (at : NamePlace) {r : ReadName} where
+module _ (names : List ℕ) (at : NamePlace) where
   -- a wrong one
-  pub read_wrong : is_wrong names at ≡ true → r.size ≡ 0 → r.key ≡ 0 → r ≡ name_read names at
-  unfolding name_read
-  read_wrong t p q = rw t (λ i. record { size = p i; key = q i })
+  pub read_wrong : is_wrong names at ≡ true → None ≡ key_read names at
+  unfolding key_read
+  read_wrong t = rw t
 
-  -- one whose bytes are all counted; one without bytes is wrong
-  pub read_run : at.place ≤ length names → at.size ≤ 8 → at.size ≤ name_run at.size names at.place → r ≡ run_at at.size names at.place
-      → r ≡ name_read names at
-  unfolding name_read key_from
-  read_run inside short whole e =
-      let n : name_run at.size names at.place ≡ at.size = omega (arith, run_most names at.size at.place) in
-      by_size at.size refl n
-    where
-      by_size : (k : ℕ) → at.size ≡ k → name_run at.size names at.place ≡ at.size → r ≡ name_read names at
-      by_size zero z n =
-          read_wrong (empty_wrong names at z) (ap (λ (x : ReadName). x.size) e ∙ n ∙ z)
-          (ap (λ (x : ReadName). x.key) e ∙ ap (λ (m : ℕ). key_from m names at.place) (n ∙ z))
-      by_size (suc k) z n =
-          e ∙ rw (run_right names at inside short whole (omega arith)) (λ i. record { size = n i; key = key_from (n i) names at.place })
-
-module _ (names : List ℕ) (at : NamePlace) {r : ReadName} (e : r ≡ name_read names at) where
-  -- so one of size 0 is wrong, and any other is not
-  pub read_none : r.size ≡ 0 → is_wrong names at ≡ true
-  unfolding name_read
-  read_none z =
-      cond_case (λ (x : ReadName). r ≡ x → is_wrong names at ≡ true) (is_wrong names at) _ _ (λ t f. t)
-      (λ t f. empty_wrong names at (sym (ap (λ (x : ReadName). x.size) f) ∙ z)) e
-
-  pub read_some : (r.size ≡ 0 → ⊥) → (is_wrong names at ≡ false) × (r.key ≡ place_key names at)
-  unfolding name_read
-  read_some some =
-      cond_case (λ (x : ReadName). r ≡ x → (is_wrong names at ≡ false) × (r.key ≡ place_key names at)) (is_wrong names at) _ _
-      (λ t f. absurd (some (ap (λ (x : ReadName). x.size) f)))
-      (λ t f. (t, ap (λ (x : ReadName). x.key) f)) e
+  -- one whose bytes are all counted
+  pub read_run : {r : ReadName} → at.place ≤ length names → 1 ≤ at.size → at.size ≤ 8 → r ≡ run_at at.size names at.place → at.size ≤ r.size
+      → Some r.key ≡ key_read names at
+  unfolding key_read
+  read_run {r} inside some short e whole =
+      let counted : r.size ≡ name_run at.size names at.place = ap (λ (x : ReadName). x.size) e in
+      let n : name_run at.size names at.place ≡ at.size = omega (arith, counted, run_most names at.size at.place) in
+      ap (λ (x : ReadName). Some x.key) e ∙ ap (λ (k : ℕ). Some (key_from k names at.place)) n
+      ∙ sym (rw (run_right names at inside short (omega (arith, n)) some))

@@ -11,13 +11,16 @@ use lib.ListN.{length, drop}
 use lib.Seq.{sets, sets-eq}
 use borrow.Author.Tests.{ltb-false, eqb-true, eq-eqb, ne_eqb, not-false}
 use Rattle.decimal.proofs.Choices.{or-none}
-use Rattle.card.specs.declared.Reply.{Reply}
 use Rattle.card.specs.Words.{◌below◌, ◌above◌, outside}
 use Rattle.card.specs.Table.{reply_by}
 use Rattle.card_list.specs.List.{curve_width}
 use Rattle.book.specs.Book.{most_curves}
 use Rattle.book.specs.Printed.{Curve, bodies_of, book_text}
-use Rattle.book.specs.Writing.{curve_count, curves_of, wrong_length, some_unfit, wrong_list, twinned, unwritable, writer_number, reply_to_list, buffer_after}
+use Rattle.card.specs.Told.{told}
+use Rattle.book.specs.Writing.{curve_count, curves_of, wrong_length, some_unfit, wrong_list, twinned, unwritable, writer_number, reply_to_list, list_refusal_number, buffer_after}
+use Rattle.book.specs.declared.ListRefusal.{ListRefusal}
+use Rattle.book.specs.declared.ListRefusal.TheVariants.{WrongList, ListedTwin, ShortBuffer}
+use Rattle.std.specs.Prelude.{Result, Ok, Err}
 
 -- thirteen numbers for each of 1 to 64 curves
 pub length_of : (size : ℕ) → wrong_length size ≡ false → (size ≡ curve_width * curve_count size) × ((1 ≤ curve_count size) × (curve_count size ≤ most_curves))
@@ -41,8 +44,11 @@ module _ (list : List ℤ) (names : List ℕ) where
   number_is room = refl
 
   -- what the call is answered, and the buffer afterwards
-  abbrev pub Answered : List ℕ → Reply → List ℕ → Type 0
-  Answered buffer reply after = (reply ≡ reply_to_list list names (length buffer)) × (after ≡ buffer_after list names buffer)
+  abbrev pub Answered : List ℕ → Result ℕ ListRefusal → List ℕ → Type 0
+  Answered buffer result after = record {
+    value : told list_refusal_number result ≡ reply_to_list list names (length buffer);
+    buffer_after : after ≡ buffer_after list names buffer;
+  }
 
   module _ (buffer : List ℕ) where
     pub refused : (writer_number list names (length buffer) ≡ 0 → ⊥)
@@ -60,34 +66,38 @@ module _ (list : List ℤ) (names : List ℕ) where
       buffer_is = rw (eq-eqb _ _ e)
 
     -- a refusal
-    module _ {reply : Reply} where
-      answered_refused : (number : ℕ) → writer_number list names (length buffer) ≡ number → (number ≡ 0 → ⊥) → reply ≡ reply_by number 0
-          → Answered buffer reply buffer
-      answered_refused number e some r =
-          let both = refused (λ z. some (sym e ∙ z)) in
-          (r ∙ ap (λ (k : ℕ). reply_by k 0) (sym e) ∙ sym both.0, sym both.1)
+    answered_refused : (refusal : ListRefusal) → writer_number list names (length buffer) ≡ list_refusal_number refusal
+        → (list_refusal_number refusal ≡ 0 → ⊥) → Answered buffer (Err refusal) buffer
+    unfolding reply_by
+    answered_refused refusal e some =
+        let both = refused (λ z. some (sym e ∙ z)) in
+        record {
+          value = sym (both.0 ∙ rw (e, ne_eqb (list_refusal_number refusal) 0 some));
+          buffer_after = sym both.1;
+        }
 
-      pub answered_wrong : wrong_list list names ≡ true → reply ≡ reply_by 31 0 → Answered buffer reply buffer
-      answered_wrong a r = answered_refused 31 (number_is (length buffer) ∙ rw a) (λ z. omega arith) r
+    pub answered_wrong : wrong_list list names ≡ true → Answered buffer (Err WrongList) buffer
+    answered_wrong a = answered_refused WrongList (number_is (length buffer) ∙ rw a) (λ z. omega arith)
 
-      pub answered_twin : wrong_list list names ≡ false → twinned list names ≡ true → reply ≡ reply_by 32 0 → Answered buffer reply buffer
-      answered_twin a b r = answered_refused 32 (number_is (length buffer) ∙ rw (a, b)) (λ z. omega arith) r
+    pub answered_twin : wrong_list list names ≡ false → twinned list names ≡ true → Answered buffer (Err ListedTwin) buffer
+    answered_twin a b = answered_refused ListedTwin (number_is (length buffer) ∙ rw (a, b)) (λ z. omega arith)
 
-      pub answered_short : wrong_list list names ≡ false → twinned list names ≡ false → unwritable list names (length buffer) ≡ true → reply ≡ reply_by 33 0 → Answered buffer reply buffer
-      answered_short a b c r = answered_refused 33 (number_is (length buffer) ∙ rw (a, b, c)) (λ z. omega arith) r
+    pub answered_short : wrong_list list names ≡ false → twinned list names ≡ false → unwritable list names (length buffer) ≡ true → Answered buffer (Err ShortBuffer) buffer
+    answered_short a b c = answered_refused ShortBuffer (number_is (length buffer) ∙ rw (a, b, c)) (λ z. omega arith)
 
     -- a book that fits
     module _ (a : wrong_list list names ≡ false) (b : twinned list names ≡ false) (c : unwritable list names (length buffer) ≡ false) where
       pub number-none : writer_number list names (length buffer) ≡ 0
       number-none = number_is (length buffer) ∙ rw (a, b, c)
 
-      pub answered_written : {reply : Reply} {after : List ℕ} → reply.number ≡ 0 → reply.count ≡ length (book_text curves)
-          → after ≡ sets buffer 0 (book_text curves) → Answered buffer reply after
+      pub answered_written : {count : ℕ} {after : List ℕ} → count ≡ length (book_text curves) → after ≡ sets buffer 0 (book_text curves)
+          → Answered buffer (Ok count) after
       unfolding reply_by
-      answered_written p q s =
+      answered_written q s =
           let both = or-none (length buffer below length (book_text curves)) (some_unfit (bodies_of curves)) c in
           let room : length (book_text curves) ≤ length buffer = ltb-false (length buffer) (length (book_text curves)) both.0 in
-          let z : 0 + length (book_text curves) ≡ length (book_text curves) = omega arith in (
-            (λ i. record { number = p i; count = q i }) ∙ sym (reply_is number-none),
-            s ∙ sets-eq (book_text curves) buffer 0 (omega arith) ∙ ap (λ (k : ℕ). book_text curves ++ drop k buffer) z ∙ sym (buffer_is number-none),
-          )
+          let z : 0 + length (book_text curves) ≡ length (book_text curves) = omega arith in
+          record {
+            value = (λ i. record { number = 0; count = q i }) ∙ sym (reply_is number-none);
+            buffer_after = s ∙ sets-eq (book_text curves) buffer 0 (omega arith) ∙ ap (λ (k : ℕ). book_text curves ++ drop k buffer) z ∙ sym (buffer_is number-none);
+          }

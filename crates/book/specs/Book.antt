@@ -1,17 +1,15 @@
 -- Document 01, "The book of cards" and "What a turned-away card or book says": what a book and a lent list are answered, and
 -- the list afterwards. Line 1 is the count n, then come n contents lines, lines 2 to n + 1, then n bodies, lines n + 2 to 2 × n + 1.
 -- Assumes nothing.
-use Rattle.std.specs.Prelude.{ℕ, zero, suc, ◌+◌, ◌*◌, List, [], ◌∷◌, ◌++◌, cond, ◌&&◌, length, drop, ltb, leb, eqb, ℤ, pos}
+use Rattle.std.specs.Prelude.{ℕ, zero, suc, ◌+◌, ◌*◌, List, [], ◌∷◌, ◌++◌, cond, ◌&&◌, length, drop, ltb, leb, eqb, ℤ, pos, Some, None, Result, Ok, Err}
 use Rattle.card_list.specs.List.{curve_width}
-use Rattle.book.specs.Number.{number_at, field_next}
+use Rattle.book.specs.Number.{number_at, field_next, Field}
 use Rattle.book.specs.Name.{name_at}
-use Rattle.book.specs.Contents.{contents_line, after_heading}
+use Rattle.book.specs.Contents.{contents_line, after_heading, Line}
 use Rattle.book.specs.Body.{front_numbers, body_from, numbers_at, after_numbers}
-use Rattle.book.specs.declared.text.Field.{Field}
-use Rattle.book.specs.declared.text.Field.TheVariants.{Value, NoValue}
-use Rattle.book.specs.declared.lines.Line.{Line}
-use Rattle.book.specs.declared.lines.Line.TheVariants.{Next, Fault}
-use Rattle.book.specs.declared.BookReply.{BookReply}
+use Rattle.book.specs.declared.Fault.{Fault}
+use Rattle.book.specs.declared.Fault.TheVariants.{BookSize, CountLine, ContentsLine, WrongLine, TwinName, Body, Tail, ShortList}
+use Rattle.book.specs.declared.BookRefusal.{BookRefusal}
 
 -- at most 64 curves, at most 8192 bytes
 abbrev pub most_curves : ℕ
@@ -24,6 +22,23 @@ most_bytes = 8192
 abbrev pub least_list : ℕ
 least_list = 832
 
+-- what a book is answered, in this paper's numbers
+pub record BookReply : Type 0 where
+  pub number : ℕ
+  pub count : ℕ
+  pub line : ℕ
+
+-- the number of each refusal
+abbrev pub fault_number : Fault → ℕ
+fault_number BookSize = 21
+fault_number CountLine = 22
+fault_number ContentsLine = 23
+fault_number WrongLine = 24
+fault_number TwinName = 25
+fault_number Body = 26
+fault_number Tail = 27
+fault_number ShortList = 28
+
 -- a refused book gives its number, count 0 and the line; an accepted one number 0, the count of curves and line 0
 abbrev pub refused_of : ℕ → ℕ → BookReply
 refused_of number line = record { number = number; count = 0; line = line }
@@ -31,10 +46,15 @@ refused_of number line = record { number = number; count = 0; line = line }
 abbrev pub accepted_of : ℕ → BookReply
 accepted_of n = record { number = 0; count = n; line = 0 }
 
+-- what the reader returns says this reply
+abbrev pub told_book : Result ℕ BookRefusal → BookReply
+told_book (Ok n) = accepted_of n
+told_book (Err refusal) = refused_of (fault_number refusal.fault) refusal.line
+
 -- the first line at fault is named; else the next line follows
 abbrev pub line_then : Line → ℕ → (ℕ → BookReply) → BookReply
-line_then (Next p) line go = go p
-line_then (Fault number) line go = refused_of number line
+line_then (Ok p) line go = go p
+line_then (Err fault) line go = refused_of (fault_number fault) line
 
 -- the last k of n bodies, after i others; 27, bytes after the last body, names line 2 × n + 2
 unfoldable pub bodies_from : ℕ → List ℕ → ℕ → ℕ → ℕ → BookReply
@@ -54,8 +74,8 @@ contents_from (suc k) text n earlier at =
 
 -- line 1, the count n: 22 where it is malformed, or not 1 to 64
 abbrev pub count_then : List ℕ → Field → BookReply
-count_then text NoValue = refused_of 22 1
-count_then text (Value n next) =
+count_then text None = refused_of 22 1
+count_then text (Some (n, next)) =
     cond (leb 1 n && leb n most_curves) (contents_from n text n [] next) (refused_of 22 1)
 
 -- 21: 0 bytes, or above 8192; then the lines in order

@@ -3,7 +3,7 @@
 -- and a height or grade beside mark 0". What they are answered, and the buffer afterwards.
 -- Assumes nothing.
 use Rattle.std.specs.Prelude.{ℕ, zero, suc, ◌+◌, ◌/◌, ◌%◌, List, [], ◌∷◌, ◌++◌, Bool, true, false, cond, not, ◌&&◌, ◌||◌, eqb, ℤ, pos, negsuc, nat_abs, length, drop}
-use Rattle.card.specs.declared.Reply.{Reply}
+use Rattle.card.specs.Table.{Reply}
 use Rattle.card.specs.Words.{◌below◌, ◌above◌, outside}
 use Rattle.card.specs.Reasons.{Test, test, first}
 use Rattle.card.specs.Table.{reply_by}
@@ -13,6 +13,8 @@ use Rattle.book.specs.Name.{is_name_byte}
 use Rattle.book.specs.Book.{most_curves}
 use Rattle.book.specs.Printed.{Curve, names_of, bodies_of, book_text, eight_of, mark_of, height_of, grade_of, is_nought}
 use Rattle.book.specs.Meaning.{curves_in}
+use Rattle.book.specs.declared.ListRefusal.{ListRefusal}
+use Rattle.book.specs.declared.ListRefusal.TheVariants.{WrongList, ListedTwin, ShortBuffer}
 
 -- how many curves a list of `size` numbers has, thirteen numbers each
 abbrev pub curve_count : ℕ → ℕ
@@ -121,6 +123,12 @@ writer_number list names room = first (writer_tests list names room)
 -- "It gives number 0 and the count of bytes"; a refusal gives its number and count 0
 unfoldable pub reply_to_list : List ℤ → List ℕ → ℕ → Reply
 reply_to_list list names room = reply_by (writer_number list names room) (length (book_text (curves_of list names)))
+
+-- the number of a refusal
+abbrev pub list_refusal_number : ListRefusal → ℕ
+list_refusal_number WrongList = 31
+list_refusal_number ListedTwin = 32
+list_refusal_number ShortBuffer = 33
 
 -- "and later bytes are untouched. A refusal leaves the whole buffer untouched"
 unfoldable pub buffer_after : List ℤ → List ℕ → List ℕ → List ℕ

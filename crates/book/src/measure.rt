@@ -1,55 +1,39 @@
 // How many bytes a book has.
-ghost use Rattle.std.specs.Prelude.{◌≡◌, ◌*◌, ◌≤◌, length};
-ghost use Rattle.card_list.specs.List.{curve_width};
-ghost use Rattle.book.specs.Body.{card_numbers};
-ghost use Rattle.book.specs.Book.{most_curves};
+ghost use Rattle.std.specs.Prelude.{◌≡◌, ◌≤◌, IfSome};
 ghost use Rattle.book.specs.WriterSteps.{body_size, Sizes};
 
 use crate::CARD_NUMBERS;
+use crate::curves::Curves;
 use crate::numbers::{is_unfit, shown_at, shown_count};
-use card_list::{CURVE_WIDTH, name_of_curve};
-use decimal::{digit_count, signed_size};
+use card_list::name_of_curve;
+use decimal::Text;
 
-// How many bytes the body with these numbers has; 0 where no body has them.
-fn body_size(numbers: &[i32]) -> usize
-    requires { length numbers.now ≡ card_numbers }
+// How many bytes the body with these numbers has; none where no body has them.
+fn body_size(numbers: &[i32; CARD_NUMBERS]) -> Option<usize>
     ensures value { result ≡ body_size numbers.now }
-    ensures upper_bound { result ≤ 82 }
+    ensures upper_bound { IfSome result (λ size. size ≤ 90) }
 {
-    let unfit = is_unfit(numbers);
-    if unfit {
-        return 0;
+    if is_unfit(numbers) {
+        return None;
     }
-    let n = shown_count(numbers);
-    let mut size: usize = 0;
-    let mut i: usize = 0;
-    while i < n {
-        let v = shown_at(numbers, i);
-        size += signed_size(v) + 1;
-        i += 1;
+    let mut size = 0;
+    for i in 0..shown_count(numbers) {
+        size += shown_at(numbers, i).size() + 1;
     }
-    size
+    Some(size)
 }
 
-// How many bytes the book of the first n curves has; 0 with numbers that no body has.
-pub(crate) fn book_size(list: &[i32], n: usize) -> usize
-    requires { (n ≤ most_curves) × (curve_width * n ≤ length list.now) }
-    ensures { Sizes n list.now result }
+// How many bytes the book of these curves has; none with numbers that no body has.
+pub(crate) fn book_size(curves: &Curves) -> Option<usize>
+    ensures { Sizes curves.now.numbers.now result }
 {
-    let mut size = digit_count(n as u32) + 1;
-    let mut i: usize = 0;
-    while i < n {
-        let name = name_of_curve(list, i as u32);
-        let front = name.size as usize;
-        let line = digit_count((n + i + 2) as u32);
-        let at = CURVE_WIDTH * i + 2;
-        let end = at + CARD_NUMBERS;
-        let body = body_size(&list[at..end]);
-        if body == 0 {
-            return 0;
-        }
-        size += front + line + body + 2;
-        i += 1;
+    let n = curves.numbers.len();
+    let mut size = (n as u32).size() + 1;
+    for (i, curve) in curves.numbers.iter().enumerate() {
+        let name = name_of_curve(curve, 0);
+        let line = ((n + i + 2) as u32).size();
+        let body = body_size(curve.last_chunk().unwrap())?;
+        size += name.size as usize + line + body + 2;
     }
-    size
+    Some(size)
 }

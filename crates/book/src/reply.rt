@@ -1,128 +1,86 @@
 // The reply to a text: the lines in order, the first at fault.
-ghost use Rattle.std.specs.Prelude.{◌≡◌, ℕ, ◌≤◌, ◌<◌, [], length};
+ghost use Rattle.std.specs.Prelude.{◌≡◌, ◌≤◌, ◌<◌, [], length, IfOk};
 ghost use Rattle.std.proofs.lemmas.List.Edits.{sets};
 ghost use Rattle.decimal.specs.Decimal.{Each};
-ghost use Rattle.book.specs.Name.{name_at};
-ghost use Rattle.book.specs.Book.{most_curves, most_bytes, least_list, bodies_from, contents_from, text_reply, refused_of, after_headings, entries_from, entries_of};
-ghost use Rattle.book.specs.Reading.{sizes_at, entries_by};
+ghost use Rattle.book.specs.Book.{most_curves, most_bytes, bodies_from, contents_from, text_reply, told_book, after_headings, entries_from, entries_of};
+ghost use Rattle.book.specs.Reading.{IsKept, places_of, entries_by};
 
-use crate::lines::{Line, contents_line, curve};
-use crate::text::{Field, read_name, read_number};
-use crate::{BookReply, MOST_BYTES, MOST_CURVES, PLACES};
+use crate::lines::{KeptName, contents_line, curve};
+use crate::text::{End, read_number};
+use crate::{BookRefusal, Fault, LEAST_LIST, MOST_BYTES, MOST_CURVES, PLACES};
 use card_list::CURVE_WIDTH;
 
-// A refused book: its number, count 0 and the line.
-pub(crate) fn refused(number: u32, line: u32) -> BookReply
-    ensures { result ≡ refused_of number line }
-{
-    BookReply {
-        number,
-        count: 0,
-        line,
-    }
-}
+// Where no name is kept yet.
+const NO_NAME: KeptName = KeptName {
+    place: 0,
+    size: 0,
+    key: 0,
+};
 
-// The n bodies, and the end of the text after them. The curves are drafted; their names have these places and sizes.
+// The bodies of the curves with these names, and the end of the text after them. The curves are drafted.
 fn bodies(
     text: &[u8],
-    n: u32,
+    names: &[KeptName],
     from: usize,
-    places: &[u32],
-    sizes: &[u32],
-    draft: &mut [i32],
-) -> BookReply
-    requires n_le_most_curves { (n ≤ most_curves) × (from ≤ length text.now) }
-    requires places_len { (length places.now ≡ n) × (sizes.now ≡ sizes_at text.now places.now) }
-    requires text_len_bound { (length text.now ≤ most_bytes) × Each (λ (place : ℕ). 0 < name_at text.now place) places.now }
-    requires least_list_in_bounds { least_list ≤ length draft.old }
-    ensures value { result ≡ bodies_from n text.now n 0 from }
-    ensures count_value { result.number ≡ 0 → (result.count ≡ n) × (draft.new ≡ sets draft.old 0 (entries_by text.now places.now from)) }
+    draft: &mut [i32; LEAST_LIST],
+) -> Result<u32, BookRefusal>
+    requires { (length names.now ≤ most_curves) × Each (IsKept text.now) names.now }
+    ensures value { let n = length names.now in told_book result ≡ bodies_from n text.now n 0 from }
+    ensures count_value { IfOk result (λ count. (count ≡ length names.now) × (draft.new ≡ sets draft.old 0 (entries_by text.now (places_of names.now) from))) }
 {
+    let n = names.len() as u32;
     let mut at = from;
-    let mut i: u32 = 0;
-    while i < n {
-        let k = i as usize;
-        let place = places[k];
-        let size = sizes[k];
-        let line = curve(text, place, size, at, draft, CURVE_WIDTH * k);
-        match line {
-            Line::Next(next) => {
-                at = next;
-            }
-            Line::Fault(number) => {
-                return refused(number, n + i + 2);
-            }
-        }
-        i = i + 1;
+    for (i, name) in names.iter().enumerate() {
+        let line = n + i as u32 + 2;
+        let read = curve(text, *name, at, draft, CURVE_WIDTH * i);
+        at = read.map_err(|fault| fault.at_line(line))?;
     }
-    if at == text.len() {
-        return BookReply {
-            number: 0,
-            count: n,
-            line: 0,
-        };
+    if at != text.len() {
+        return Err(Fault::Tail.at_line(n + n + 2));
     }
-    refused(27, n + n + 2)
+    Ok(n)
 }
 
-// The n contents lines, and what follows them. The places and sizes of the names are kept for the draft, and their keys for the twin test.
-fn contents(text: &[u8], n: u32, first: usize, draft: &mut [i32]) -> BookReply
-    requires n_le_most_curves { (n ≤ most_curves) × ((length text.now ≤ most_bytes) × (first ≤ length text.now)) }
-    requires least_list_in_bounds { least_list ≤ length draft.old }
-    ensures value { result ≡ contents_from n text.now n [] first }
-    ensures count_value { result.number ≡ 0 → (result.count ≡ n) × (draft.new ≡ sets draft.old 0 (entries_from n text.now first (after_headings n text.now first))) }
+// The n contents lines, and what follows them. Their names are kept for the draft and for the twin test.
+fn contents(
+    text: &[u8],
+    n: u32,
+    first: usize,
+    draft: &mut [i32; LEAST_LIST],
+) -> Result<u32, BookRefusal>
+    requires n_le_most_curves { (n ≤ most_curves) × (length text.now ≤ most_bytes) }
+    ensures value { told_book result ≡ contents_from n text.now n [] first }
+    ensures count_value { IfOk result (λ count. (count ≡ n) × (draft.new ≡ sets draft.old 0 (entries_from n text.now first (after_headings n text.now first)))) }
 {
-    let mut keys = [0u64; PLACES];
-    let mut places = [0u32; PLACES];
-    let mut sizes = [0u32; PLACES];
+    // no heap: room for the most names, of which the first are used
+    let mut names = [NO_NAME; PLACES];
     let mut at = first;
-    let mut i: u32 = 0;
-    while i < n {
+    for i in 0..n {
         let used = i as usize;
-        let name = read_name(text, at);
-        let key = name.key;
-        let size = name.size;
-        let line = contents_line(text, &keys[..used], name, at, n + i + 2);
-        match line {
-            Line::Next(next) => {
-                keys[used] = key;
-                places[used] = at as u32;
-                sizes[used] = size as u32;
-                at = next;
-            }
-            Line::Fault(number) => {
-                return refused(number, i + 2);
-            }
-        }
-        i = i + 1;
+        let line = i + 2;
+        let read = contents_line(text, &names[..used], at, n + i + 2);
+        let (name, next) = read.map_err(|fault| fault.at_line(line))?;
+        names[used] = name;
+        at = next;
     }
     let count = n as usize;
-    bodies(text, n, at, &places[..count], &sizes[..count], draft)
+    bodies(text, &names[..count], at, draft)
 }
 
 // The reply to a text, where the list is long enough. Of an accepted text the curves stand in the draft afterwards.
-pub(crate) fn text_reply(text: &[u8], draft: &mut [i32]) -> BookReply
-    requires { least_list ≤ length draft.old }
-    ensures value { result ≡ text_reply text.now }
-    ensures draft_after { result.number ≡ 0 → draft.new ≡ sets draft.old 0 (entries_of text.now result.count) }
+#[tactic(auto, unfolding(crate::specs::Book::text_reply))]
+pub(crate) fn text_reply(text: &[u8], draft: &mut [i32; LEAST_LIST]) -> Result<u32, BookRefusal>
+    ensures value { told_book result ≡ text_reply text.now }
+    ensures few { IfOk result (λ count. count ≤ most_curves) }
+    ensures draft_after { IfOk result (λ count. draft.new ≡ sets draft.old 0 (entries_of text.now count)) }
 {
-    if text.len() == 0 {
-        return refused(21, 0);
+    if text.is_empty() || MOST_BYTES < text.len() {
+        return Err(Fault::BookSize.at_line(0));
     }
-    if MOST_BYTES < text.len() {
-        return refused(21, 0);
+    let no_count = Fault::CountLine.at_line(1);
+    let (n, next) = read_number(text, 0, End::Line).ok_or(no_count)?;
+    if n < 1 || MOST_CURVES < n {
+        return Err(no_count);
     }
-    let field = read_number(text, 0, 10);
-    match field {
-        Field::NoValue => refused(22, 1),
-        Field::Value { value, next } => {
-            if value < 1 {
-                return refused(22, 1);
-            }
-            if MOST_CURVES < value {
-                return refused(22, 1);
-            }
-            contents(text, value, next, draft)
-        }
-    }
+    contents(text, n, next, draft)
 }

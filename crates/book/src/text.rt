@@ -1,22 +1,15 @@
-// Bytes, numbers and names at places of the text.
-ghost use Rattle.std.specs.Prelude.{◌≡◌, ◌≤◌, ◌<◌, length, ltb, pos};
-ghost use Rattle.book.specs.Number.{byte_at, digit_at, ended_at, digits_at, number_at, minus_field, signed_at};
+// Bytes, numbers and names at places of the text. Text and place stay apart, as in the paper's definitions: a read gives the next place alone.
+ghost use Rattle.std.specs.Prelude.{◌≡◌, ◌≤◌, ◌<◌, length, pos};
+ghost use Rattle.book.specs.Number.{byte_at, ended_at, digits_at, number_at, minus_field, signed_at};
 ghost use Rattle.book.specs.Name.{is_name_byte};
 ghost use Rattle.book.specs.Printed.{IsNumber};
-ghost use Rattle.book.specs.Reading.{run_at, read_at};
+ghost use Rattle.book.specs.Reading.{byte_of, digit_read, run_at, read_at};
 
-// A number and the place after the byte that ends it.
+// What ends a number: byte 10, the end of the line, or a blank.
 #[derive(Clone, Copy)]
-pub(crate) enum Field {
-    Value { value: u32, next: usize },
-    NoValue,
-}
-
-// A signed number and the place after the byte that ends it.
-#[derive(Clone, Copy)]
-pub(crate) enum SignedField {
-    Number { value: i32, next: usize },
-    NoNumber,
+pub(crate) enum End {
+    Line = 10,
+    Blank = 32,
 }
 
 // A name as it is read: its size, and its bytes as one number.
@@ -26,87 +19,56 @@ pub(crate) struct ReadName {
     pub key: u64,
 }
 
-// The byte at a place; 0 past the end.
+// The byte at a place; 0 past the end, as the definition reads it: no Option, which each of its callers would turn into 0.
 fn byte_at(text: &[u8], at: usize) -> u8
     ensures { result ≡ byte_at text.now at }
 {
-    if at < text.len() { text[at] } else { 0 }
+    text.get(at).copied().unwrap_or(0)
 }
 
-// Whether a digit stands at a place.
-fn is_digit_at(text: &[u8], at: usize) -> bool
-    ensures { result ≡ ltb (digit_at text.now at) 10 }
+// The value of the digit at a place.
+#[tactic(auto, unfolding(crate::specs::Number::digit_at))]
+fn digit_at(text: &[u8], at: usize) -> Option<u32>
+    ensures { result ≡ digit_read text.now at }
 {
-    let b = byte_at(text, at);
-    if b < 48 {
-        return false;
+    match byte_at(text, at) {
+        b @ b'0'..=b'9' => Some(u32::from(b - b'0')),
+        _ => None,
     }
-    if 57 < b {
-        return false;
-    }
-    true
 }
 
-// The value of the digit at a place; 10 where no digit stands.
-fn digit_at(text: &[u8], at: usize) -> u32
-    ensures { result ≡ digit_at text.now at }
+// The value and the place after it, if the byte of `end` stands at the place.
+#[tactic(auto, using(crate::proofs::Places::byte_inside), unfolding(crate::specs::Number::ended_at))]
+fn ended(text: &[u8], at: usize, value: u32, end: End) -> Option<(u32, usize)>
+    ensures { result ≡ ended_at text.now at value (byte_of end) }
 {
-    let b = byte_at(text, at);
-    if b < 48 {
-        return 10;
+    if byte_at(text, at) != end as u8 {
+        return None;
     }
-    if 57 < b {
-        return 10;
-    }
-    (b - 48) as u32
+    Some((value, at + 1))
 }
 
-// The value, if the byte `end` stands at the place.
-fn ended(text: &[u8], at: usize, value: u32, end: u8) -> Field
-    requires { at ≤ length text.now }
-    ensures { result ≡ ended_at text.now at value end }
-{
-    let b = byte_at(text, at);
-    if b == end {
-        Field::Value {
-            value,
-            next: at + 1,
-        }
-    } else {
-        Field::NoValue
-    }
-}
-
-// At most six digits more after a first one, and the byte `end`.
-fn digits(text: &[u8], from: usize, first: u32, end: u8) -> Field
+// At most six digits more after a first one, and the byte of `end`.
+fn digits(text: &[u8], from: usize, first: u32, end: End) -> Option<(u32, usize)>
     requires { (from ≤ length text.now) × (first < 10) }
-    ensures { result ≡ digits_at 6 text.now from first end }
+    ensures { result ≡ digits_at 6 text.now from first (byte_of end) }
 {
-    let mut at = from;
+    let last = from + 6;
     let mut value = first;
-    let mut n: u32 = 0;
-    while n < 6 {
-        let more = is_digit_at(text, at);
-        if !more {
+    for at in from..last {
+        let Some(d) = digit_at(text, at) else {
             return ended(text, at, value, end);
-        }
-        let d = digit_at(text, at);
+        };
         value = value * 10 + d;
-        at = at + 1;
-        n = n + 1;
     }
-    ended(text, at, value, end)
+    ended(text, last, value, end)
 }
 
-// A number and the byte `end`.
-pub(crate) fn read_number(text: &[u8], at: usize, end: u8) -> Field
-    requires { at ≤ length text.now }
-    ensures { result ≡ number_at text.now at end }
+// A number and the byte of `end`, and the place after them.
+pub(crate) fn read_number(text: &[u8], at: usize, end: End) -> Option<(u32, usize)>
+    ensures { result ≡ number_at text.now at (byte_of end) }
 {
-    let d = digit_at(text, at);
-    if 9 < d {
-        return Field::NoValue;
-    }
+    let d = digit_at(text, at)?;
     if d == 0 {
         return ended(text, at + 1, 0, end);
     }
@@ -121,100 +83,59 @@ pub(crate) fn plain(v: u32) -> i32
     v as i32
 }
 
-// A number with a minus before it, and the byte `end`: 0 has none.
-fn read_minus(text: &[u8], at: usize, end: u8) -> SignedField
-    requires { (at ≤ length text.now) × (0 < end) }
-    ensures { result ≡ minus_field (number_at text.now at end) }
+// A number with a minus before it, and the byte of `end`: 0 has none.
+fn read_minus(text: &[u8], at: usize, end: End) -> Option<(i32, usize)>
+    ensures { result ≡ minus_field (number_at text.now at (byte_of end)) }
 {
-    let field = read_number(text, at, end);
-    match field {
-        Field::Value { value, next } => {
-            if value == 0 {
-                return SignedField::NoNumber;
-            }
-            let size = plain(value);
-            SignedField::Number {
-                value: 0 - size,
-                next,
-            }
-        }
-        Field::NoValue => SignedField::NoNumber,
+    let (value, next) = read_number(text, at, end)?;
+    if value == 0 {
+        return None;
     }
+    let size = plain(value);
+    Some((-size, next))
 }
 
-// A signed number and the byte `end`: an optional minus before a number other than 0.
-pub(crate) fn read_signed(text: &[u8], at: usize, end: u8) -> SignedField
-    requires { (at ≤ length text.now) × (0 < end) }
-    ensures { result ≡ signed_at text.now at end }
+// A signed number and the byte of `end`: an optional minus before a number other than 0.
+pub(crate) fn read_signed(text: &[u8], at: usize, end: End) -> Option<(i32, usize)>
+    ensures { result ≡ signed_at text.now at (byte_of end) }
 {
-    let b = byte_at(text, at);
-    if b == b'-' {
+    if byte_at(text, at) == b'-' {
         return read_minus(text, at + 1, end);
     }
-    let field = read_number(text, at, end);
-    match field {
-        Field::Value { value, next } => {
-            let number = plain(value);
-            SignedField::Number {
-                value: number,
-                next,
-            }
-        }
-        Field::NoValue => SignedField::NoNumber,
-    }
+    let (value, next) = read_number(text, at, end)?;
+    Some((plain(value), next))
 }
 
-// Whether a capital or a digit stands at a place.
-fn name_byte_at(text: &[u8], at: usize) -> bool
-    ensures { result ≡ is_name_byte (byte_at text.now at) }
+// A capital or a digit.
+fn is_name_byte(b: u8) -> bool
+    ensures { result ≡ is_name_byte b }
 {
-    let b = byte_at(text, at);
-    if b < 48 {
-        return false;
-    }
-    if b <= 57 {
-        return true;
-    }
-    if b < 65 {
-        return false;
-    }
-    if b <= 90 {
-        return true;
-    }
-    false
+    matches!(b, b'0'..=b'9' | b'A'..=b'Z')
 }
 
 // The bytes of a name from a place on, at most so many of them.
 pub(crate) fn name_run(text: &[u8], from: usize, most: usize) -> ReadName
-    requires { (from ≤ length text.now) × (most ≤ 8) }
+    requires { most ≤ 8 }
     ensures { result ≡ run_at most text.now from }
 {
     let mut key: u64 = 0;
-    let mut n: usize = 0;
-    while n < most {
-        let more = name_byte_at(text, from + n);
-        if !more {
+    for n in 0..most {
+        let b = byte_at(text, from + n);
+        if !is_name_byte(b) {
             return ReadName { size: n, key };
         }
-        let b = byte_at(text, from + n);
-        key = key * 256 + b as u64;
-        n = n + 1;
+        key = key * 256 + u64::from(b);
     }
-    ReadName { size: n, key }
+    ReadName { size: most, key }
 }
 
-// The name at a place, with a blank after it; of size 0 where there is none.
-pub(crate) fn read_name(text: &[u8], at: usize) -> ReadName
-    requires { at ≤ length text.now }
+// The name at a place, with a blank after it.
+pub(crate) fn read_name(text: &[u8], at: usize) -> Option<ReadName>
     ensures { result ≡ read_at text.now at }
 {
     let run = name_run(text, at, 8);
-    let n = run.size;
-    let key = run.key;
-    let b = byte_at(text, at + n);
-    if b == 32 {
-        ReadName { size: n, key }
-    } else {
-        ReadName { size: 0, key }
+    if run.size == 0 {
+        return None;
     }
+    (byte_at(text, at + run.size) == b' ').then_some(run)
 }

@@ -1,117 +1,79 @@
 // Writes the lines of a book into a buffer with room for them.
-ghost use Rattle.std.specs.Prelude.{◌≡◌, false, ◌+◌, ◌*◌, ◌≤◌, length};
+ghost use Rattle.std.specs.Prelude.{◌≡◌, false, ◌≤◌, length, map};
 ghost use Rattle.std.proofs.lemmas.List.Edits.{sets};
-ghost use Rattle.card_list.specs.List.{curve_width};
-ghost use Rattle.book.specs.Body.{card_numbers};
-ghost use Rattle.book.specs.Book.{most_curves};
-ghost use Rattle.book.specs.Printed.{IsNumber, IsSigned, number_text, signed_number_text, contents_text, contents_texts, body_text, body_texts, book_text, names_of};
-ghost use Rattle.book.specs.Meaning.{curves_in};
-ghost use Rattle.book.specs.Writing.{some_wrong, is_unfit, some_unfit};
-ghost use Rattle.book.specs.WriterSteps.{bodies_in};
+ghost use Rattle.decimal.specs.Places.{HasRoom, Wrote};
+ghost use Rattle.book.specs.Printed.{IsNumber, contents_text, body_text, book_text};
+ghost use Rattle.book.specs.Meaning.{curve_in};
+ghost use Rattle.book.specs.Writing.{is_unfit, some_unfit};
+ghost use Rattle.book.specs.WriterSteps.{any_wrong, cards_in, contents_left, bodies_left};
 
 use crate::CARD_NUMBERS;
+use crate::curves::Curves;
 use crate::lines::end_byte;
 use crate::numbers::{shown_at, shown_count};
-use card_list::{CURVE_WIDTH, name_of_curve};
-use decimal::{put_bytes, put_ended, put_signed};
+use card_list::name_of_curve;
+use decimal::Place;
 
-// Writes a number and the byte that ends it from a place on, and returns the place after them.
-fn write_number(v: u32, end: u8, buffer: &mut [u8], at: usize) -> usize
-    requires number { IsNumber v }
-    requires end_in_bounds { at + length (number_text v end) ≤ length buffer.old }
-    ensures value { result ≡ at + length (number_text v end) }
-    ensures buffer_after { buffer.new ≡ sets buffer.old at (number_text v end) }
-{
-    put_ended(v, end, buffer, at)
-}
-
-// Writes a contents line from a place on, and returns the place after it.
-fn write_heading(name: &[u8], line: u32, buffer: &mut [u8], at: usize) -> usize
+// Writes a contents line.
+fn write_heading(name: &[u8], line: u32, place: &mut Place)
     requires number { IsNumber line }
-    requires line_in_bounds { at + length (contents_text name.now line) ≤ length buffer.old }
-    ensures value { result ≡ at + length (contents_text name.now line) }
-    ensures buffer_after { buffer.new ≡ sets buffer.old at (contents_text name.now line) }
+    requires room { HasRoom place.old (contents_text name.now line) }
+    ensures { Wrote place.old place.new (contents_text name.now line) }
 {
-    let blank = put_bytes(name, buffer, at);
-    buffer[blank] = 32;
-    write_number(line, 10, buffer, blank + 1)
+    place.put_ended(name, b' ');
+    place.put_ended(line, b'\n');
 }
 
-// Writes a number of either sign and the byte that ends it from a place on, and returns the place after them.
-fn write_signed(z: i32, end: u8, buffer: &mut [u8], at: usize) -> usize
-    requires signed { IsSigned z }
-    requires end_in_bounds { at + length (signed_number_text z end) ≤ length buffer.old }
-    ensures value { result ≡ at + length (signed_number_text z end) }
-    ensures buffer_after { buffer.new ≡ sets buffer.old at (signed_number_text z end) }
-{
-    let last = put_signed(z, buffer, at);
-    buffer[last] = end;
-    last + 1
-}
-
-// Writes a body from a place on, and returns the place after it.
-fn write_body(numbers: &[i32], buffer: &mut [u8], at: usize) -> usize
-    requires numbers_len { (length numbers.now ≡ card_numbers) × (is_unfit numbers.now ≡ false) }
-    requires numbers_in_bounds { at + length (body_text numbers.now) ≤ length buffer.old }
-    ensures value { result ≡ at + length (body_text numbers.now) }
-    ensures buffer_after { buffer.new ≡ sets buffer.old at (body_text numbers.now) }
+// Writes a body.
+fn write_body(numbers: &[i32; CARD_NUMBERS], place: &mut Place)
+    requires fit { is_unfit numbers.now ≡ false }
+    requires room { HasRoom place.old (body_text numbers.now) }
+    ensures { Wrote place.old place.new (body_text numbers.now) }
 {
     let n = shown_count(numbers);
-    let mut place = at;
-    let mut i: usize = 0;
-    while i < n {
+    for i in 0..n {
         let v = shown_at(numbers, i);
-        i += 1;
-        let end = end_byte((n - i) as u32);
-        place = write_signed(v, end, buffer, place);
+        let end = end_byte((n - (i + 1)) as u32);
+        place.put_ended(v, end);
     }
-    place
 }
 
-// Writes the contents lines of the first n curves from a place on, and returns the place after them.
-fn write_contents(list: &[i32], names: &[u8], n: usize, buffer: &mut [u8], at: usize) -> usize
-    requires n_le_most_curves { (n ≤ most_curves) × (some_wrong n names.now list.now ≡ false) }
-    requires list_in_bounds { at + length (contents_texts (n + 2) (names_of (curves_in n names.now list.now))) ≤ length buffer.old }
-    ensures value { result ≡ at + length (contents_texts (n + 2) (names_of (curves_in n names.now list.now))) }
-    ensures buffer_after { buffer.new ≡ sets buffer.old at (contents_texts (n + 2) (names_of (curves_in n names.now list.now))) }
+// Writes the contents lines of these curves.
+fn write_contents(curves: &Curves, place: &mut Place)
+    requires right { any_wrong curves.now.names.now curves.now.numbers.now ≡ false }
+    requires room { HasRoom place.old (contents_left curves.now.names.now curves.now.numbers.now 0) }
+    ensures { Wrote place.old place.new (contents_left curves.now.names.now curves.now.numbers.now 0) }
 {
-    let mut out = at;
-    let mut i: usize = 0;
-    while i < n {
-        let name = name_of_curve(list, i as u32);
+    let n = curves.numbers.len();
+    for (i, curve) in curves.numbers.iter().enumerate() {
+        let name = name_of_curve(curve, 0);
         let start = name.place as usize;
-        let end = start + (name.size as usize);
+        let end = start + name.size as usize;
         let line = (n + i + 2) as u32;
-        out = write_heading(&names[start..end], line, buffer, out);
-        i += 1;
-    }
-    out
-}
-
-// Writes the bodies of the first n curves from a place on.
-fn write_bodies(list: &[i32], n: usize, buffer: &mut [u8], at: usize)
-    requires n_in_bounds { (curve_width * n ≤ length list.now) × (some_unfit (bodies_in n list.now) ≡ false) }
-    requires list_in_bounds { at + length (body_texts (bodies_in n list.now)) ≤ length buffer.old }
-    ensures { buffer.new ≡ sets buffer.old at (body_texts (bodies_in n list.now)) }
-{
-    let mut out = at;
-    let mut i: usize = 0;
-    while i < n {
-        let start = CURVE_WIDTH * i + 2;
-        let end = start + CARD_NUMBERS;
-        out = write_body(&list[start..end], buffer, out);
-        i += 1;
+        write_heading(&curves.names[start..end], line, place);
     }
 }
 
-// Writes the book of the first n curves, from the buffer's start on.
-pub(crate) fn write_lines(list: &[i32], names: &[u8], n: usize, buffer: &mut [u8])
-    requires n_le_most_curves { (n ≤ most_curves) × (curve_width * n ≤ length list.now) }
-    requires list_value { (some_wrong n names.now list.now ≡ false) × (some_unfit (bodies_in n list.now) ≡ false) }
-    requires list_in_bounds { length (book_text (curves_in n names.now list.now)) ≤ length buffer.old }
-    ensures { buffer.new ≡ sets buffer.old 0 (book_text (curves_in n names.now list.now)) }
+// Writes the bodies of these curves.
+fn write_bodies(curves: &Curves, place: &mut Place)
+    requires fit { some_unfit (cards_in curves.now.numbers.now) ≡ false }
+    requires room { HasRoom place.old (bodies_left curves.now.numbers.now 0) }
+    ensures { Wrote place.old place.new (bodies_left curves.now.numbers.now 0) }
 {
-    let contents = write_number(n as u32, 10, buffer, 0);
-    let bodies = write_contents(list, names, n, buffer, contents);
-    write_bodies(list, n, buffer, bodies);
+    for curve in curves.numbers {
+        write_body(curve.last_chunk().unwrap(), place);
+    }
+}
+
+// Writes the book of these curves, from the buffer's start on.
+pub(crate) fn write_lines(curves: &Curves, buffer: &mut [u8])
+    requires right { any_wrong curves.now.names.now curves.now.numbers.now ≡ false }
+    requires fit { some_unfit (cards_in curves.now.numbers.now) ≡ false }
+    requires room { length (book_text (map (curve_in curves.now.names.now) curves.now.numbers.now)) ≤ length buffer.old }
+    ensures { buffer.new ≡ sets buffer.old 0 (book_text (map (curve_in curves.now.names.now) curves.now.numbers.now)) }
+{
+    let mut place = Place::start(buffer);
+    place.put_ended(curves.numbers.len() as u32, b'\n');
+    write_contents(curves, &mut place);
+    write_bodies(curves, &mut place);
 }

@@ -1,24 +1,24 @@
 -- `book::lines::body_end` meets its contract.
 -- Assumes nothing.
-use Rattle.std.proofs.Common.{◌+◌, SFits, rules, set, sym, to_z-of_z, w32, ◌∙◌}
+use Rattle.std.proofs.Common.{◌+◌, ◌-◌, ◌≤◌, arith, length, rules, sym, ◌∙◌}
 use Rattle.book.proofs.LineLaws.{body_last}
-use Rattle.book.proofs.Stores.{stores_last}
+use Rattle.book.proofs.Stores.{copy_sets, stores_last}
 use Rattle.book.proofs.lines.body_end.Goals as goal
 
-pub returns-in-Last-clause-value : goal.returns-in-Last-clause-value
-returns-in-Last-clause-value c = sym (body_last c.args.text.now c.args.at (sym c.last_numbers-last.ensures ∙ c.in-Last.is))
+pub returns-in_err-last-clause-value : goal.returns-in_err-last-clause-value
+returns-in_err-last-clause-value c =
+    let e = body_last c.args.text.now c.args.at (sym c.last_numbers.ensures) in
+    rw e (search rules)
 
-pub returns-in-Last-clause-by_index : goal.returns-in-Last-clause-by_index
-returns-in-Last-clause-by_index c =
+pub returns-clause-value : goal.returns-clause-value
+returns-clause-value c =
+    let e = body_last c.args.text.now c.args.at (sym c.last_numbers.ensures) in
+    rw e (search rules)
+
+pub returns-clause-by_index : goal.returns-clause-by_index
+returns-clause-by_index c =
     let a = c.args in
-    let last = c.in-Last in
-    let q = sym c.last_numbers-last.ensures ∙ last.is in
-    let fu : SFits w32 last.unit = search rules in
-    let fm : SFits w32 last.mark = search rules in
-    let fh : SFits w32 last.height = search rules in
-    let fg : SFits w32 last.grade = search rules in
-    λ p z. (λ i. set (set (set (set a.draft.now a.out (to_z-of_z fu i)) (a.out + 1) (to_z-of_z fm i)) (a.out + 2) (to_z-of_z fh i)) (a.out + 3) (to_z-of_z fg i))
-    ∙ sym (stores_last a.text.now a.at a.draft.now a.out q)
-
-pub returns-in-NoLast-clause-value : goal.returns-in-NoLast-clause-value
-returns-in-NoLast-clause-value c = sym (body_last c.args.text.now c.args.at (sym c.last_numbers-last.ensures ∙ c.in-NoLast.is))
+    let k = c.copy_from_slice.ensures in
+    let room : a.out + (a.out + 4 - a.out) ≤ length a.draft.now = omega arith in
+    copy_sets a.draft.now _ _ a.out (a.out + 4 - a.out) k.after k.len room
+    ∙ sym (stores_last a.text.now a.at a.draft.now a.out (sym c.last_numbers.ensures ∙ c.in_ok-last.ensures.ok_part))

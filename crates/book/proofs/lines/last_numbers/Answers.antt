@@ -1,24 +1,22 @@
 -- `book::lines::last_numbers` meets its contract.
 -- Assumes nothing.
-use Rattle.std.proofs.Common.{ap, lit<, of_z, pos, sym, to_z, to_z-of_z, w32, ℤ, ◌∙◌, ◌≡◌}
+use Rattle.std.proofs.Common.{Some, [], ◌∷◌, ap, lit<, pos, sym, ℤ, ◌∙◌}
 use Rattle.book.proofs.NumberText.{number_read}
+use Rattle.book.proofs.Places.{read_back}
 use Rattle.book.specs.Body.{last_at, relative_or}
-use Rattle.book.specs.declared.lines.LastNumbers.TheVariants.{Last}
 use Rattle.book.proofs.lines.last_numbers.Goals as goal
 
-pub plain-unit-requires : goal.plain-unit-requires
-plain-unit-requires c = (number_read c.args.text.now 10 (lit< tt) c.args.at _ _ (sym c.read_number-field.ensures ∙ c.in-Value.is)).0
+pub plain-requires : goal.plain-requires
+plain-requires c = (number_read c.args.text.now 10 (lit< tt) c.args.at _ _ (sym c.read_number.ensures ∙ c.in-Some.is)).0
 
-pub returns-in-Value : goal.returns-in-Value
+pub returns-in_default : goal.returns-in_default
 unfolding last_at
-returns-in-Value c =
-    let a = c.args in
-    let q = sym c.read_number-field.ensures ∙ c.in-Value.is in
-    let unit : to_z w32 (of_z w32 c.plain-unit.result) ≡ pos c.in-Value.value = to_z-of_z {w = w32} (record { sfits = c.plain-unit.type_inv }) ∙ c.plain-unit.ensures in
-    ap (λ (z : ℤ). Last z (pos 0) (pos 0) (pos 0) c.in-Value.next) unit ∙ sym (ap (relative_or a.text.now a.at) q)
+returns-in_default c = c.absolute_last.ensures ∙ sym (ap (relative_or c.args.text.now c.args.at) (sym c.read_number.ensures ∙ c.in_default.is))
 
-pub returns-in-NoValue : goal.returns-in-NoValue
+pub returns : goal.returns
 unfolding last_at
-returns-in-NoValue c =
+returns c =
     let a = c.args in
-    c.absolute_last.ensures ∙ sym (ap (relative_or a.text.now a.at) (sym c.read_number-field.ensures ∙ c.in-NoValue.is))
+    let unit = read_back c.plain.type_inv c.plain.ensures in
+    ap (λ (z : ℤ). Some (z ∷ pos 0 ∷ pos 0 ∷ pos 0 ∷ [], c.in-Some.next)) unit
+    ∙ sym (ap (relative_or a.text.now a.at) (sym c.read_number.ensures ∙ c.in-Some.is))

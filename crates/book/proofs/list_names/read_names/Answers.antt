@@ -1,41 +1,33 @@
 -- `book::list_names::read_names` meets its contract.
 -- Assumes nothing.
-use Rattle.std.proofs.Common.{◌+◌, ◌<◌, ap, arith, length, set, sym, take, ℕ, ◌∙◌}
-use Rattle.book.proofs.WriterLines.{keys_none, keys_turn, wrong_all_left, wrong_none_left, wrong_turn}
-use Rattle.book.proofs.WriterNames.{read_none, read_some}
-use Rattle.card_list.specs.List.{name_place_in}
+use Rattle.std.proofs.Common.{arith, length, length-set, refl, sym, ◌<◌, ◌∙◌, ℕ}
+use Rattle.book.proofs.WriterCurves.{key_none, key_some, keys_none, keys_turn, names_read, wrong_turn}
 use Rattle.book.proofs.list_names.read_names.Goals as goal
 
 pub loop-i-init : goal.loop-i-init
-loop-i-init c =
-    let a = c.args in
-    record {
-      upper = omega arith;
-      rest = sym (wrong_all_left a.n a.names.now a.list.now);
-      kept = sym (keys_none a.names.now a.list.now);
-    }
+loop-i-init c = record { places = refl; rest = refl; kept = keys_none c.args.curves.now.names.now }
 
-pub returns-then-size-eq0-clause-value : goal.returns-then-size-eq0-clause-value
-returns-then-size-eq0-clause-value c =
-    let a = c.args in
+pub returns-in_err-keys : goal.returns-in_err-keys
+returns-in_err-keys c =
+    let names = c.args.curves.now.names.now in
     let l = c.loop-i in
-    let t = read_none a.names.now (name_place_in a.list.now l.i) c.name_in-name.ensures c.if-size-eq0.true in
-    sym (l.invariant.rest ∙ wrong_turn a.n a.names.now a.list.now l.i c.loop-i-test.true ∙ rw t)
+    let t = key_none names _ (sym c.in_err-keys.was ∙ c.name_key.ensures) in
+    rw c.from_residual.ensures (l.invariant.rest ∙ wrong_turn names c.args.curves.now.numbers.now l.i c.loop-i-test.true ∙ rw t)
 
 pub loop-i-preserved : goal.loop-i-preserved
 loop-i-preserved c =
-    let a = c.args in
+    let names = c.args.curves.now.names.now in
+    let curves = c.args.curves.now.numbers.now in
     let l = c.loop-i in
-    let r = read_some a.names.now (name_place_in a.list.now l.i) c.name_in-name.ensures c.if-size-eq0.false in
-    let room : l.i < length l.keys = omega (arith, c.requires.1) in
+    let k = key_some names _ (sym c.in_ok-keys.was ∙ c.name_key.ensures) in
+    let room : l.i < length l.keys = omega arith in
     record {
-      upper = omega arith;
-      rest = l.invariant.rest ∙ wrong_turn a.n a.names.now a.list.now l.i c.loop-i-test.true ∙ rw r.0;
-      kept = ap (λ (k : ℕ). take (l.i + 1) (set l.keys l.i k)) r.1 ∙ keys_turn l.i a.names.now a.list.now l.keys room l.invariant.kept;
+      places = omega (arith, length-set {A = ℕ});
+      rest = l.invariant.rest ∙ wrong_turn names curves l.i c.loop-i-test.true ∙ rw k.0;
+      kept = rw k.1 (keys_turn names curves l.i c.loop-i-test.true l.keys room l.invariant.kept);
     }
 
-pub returns-clause-value : goal.returns-clause-value
-returns-clause-value c =
-    let a = c.args in
+pub returns : goal.returns
+returns c =
     let l = c.loop-i in
-    sym (l.invariant.rest ∙ wrong_none_left a.n a.names.now a.list.now l.i c.loop-i-test.false)
+    names_read c.args.curves.now.names.now c.args.curves.now.numbers.now l.i l.keys c.loop-i-test.false l.auto.i-end l.invariant.rest l.invariant.kept

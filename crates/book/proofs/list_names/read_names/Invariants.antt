@@ -1,17 +1,12 @@
 -- `book::list_names::read_names`: no name so far is wrong, and their keys are kept.
 -- Assumes nothing.
-use Rattle.std.proofs.Common.{◌≡◌, ◌-◌, ◌≤◌, take}
-use Rattle.book.specs.Writing.{some_wrong}
-use Rattle.book.specs.WriterSteps.{keys_in}
-use Rattle.book.proofs.WriterLines.{wrong_after}
+use Rattle.std.proofs.Common.{◌≡◌, drop, length, take}
+use Rattle.book.specs.WriterSteps.{any_wrong, keys_of}
 use Rattle.book.proofs.list_names.read_names.Given as goal
 
 abbrev pub invariant-loop-i : goal.invariant-loop-i
 invariant-loop-i l = record {
-  upper : l.i ≤ l.n;
-  rest : some_wrong l.n l.names l.list ≡ wrong_after l.n l.names l.list l.i;
-  kept : take l.i l.keys ≡ keys_in l.i l.names l.list;
+  places : length l.keys ≡ 64;
+  rest : any_wrong l.curves.names.now l.curves.numbers.now ≡ any_wrong l.curves.names.now (drop l.i l.curves.numbers.now);
+  kept : take l.i l.keys ≡ keys_of l.curves.names.now (take l.i l.curves.numbers.now);
 }
-
-abbrev pub decreases-loop-i : goal.decreases-loop-i
-decreases-loop-i l = l.n - l.i

@@ -1,23 +1,25 @@
 -- `book::numbers::is_unfit` meets its contract.
 -- Assumes nothing.
-use Rattle.std.proofs.Common.{ap, ap₂, of_z, rules, sym, to_z, w32, ℤ, ◌∙◌, ◌≡◌}
-use Rattle.book.proofs.WriterBodies.{unfit_below, unfit_datum, unfit_long, wrong_datum}
-use Rattle.book.specs.Printed.{grade_of, height_of, mark_of}
+use Rattle.std.proofs.Common.{nat_abs, pos, rules, tests}
+use Rattle.std.proofs.lemmas.Iterator.{YieldsList-from_slice}
+use Rattle.std.proofs.lemmas.Iterator.Search.{any_from_yields_List}
+use lib.Signed.{lt_z}
+use Rattle.card.specs.Words.{◌above◌}
+use Rattle.book.specs.Printed.{eight_of}
+use Rattle.book.proofs.WriterBodies.{unfit_datum, unfit_numbers}
 use Rattle.book.proofs.numbers.is_unfit.Goals as goal
 
-pub returns-then-long : goal.returns-then-long
-returns-then-long c = unfit_long c.args.numbers.now (sym c.any_long-long.ensures ∙ c.if-long.true)
-
 pub returns-then-below : goal.returns-then-below
-returns-then-below c = unfit_below c.args.numbers.now (sym c.any_long-long.ensures ∙ c.if-long.false) (sym c.any_below-below.ensures ∙ c.if-below.true)
-
-pub returns : goal.returns
-returns c =
+returns-then-below c =
     let numbers = c.args.numbers.now in
-    let mark : to_z w32 (of_z w32 (mark_of numbers)) ≡ mark_of numbers = search rules in
-    let height : to_z w32 (of_z w32 (height_of numbers)) ≡ height_of numbers = search rules in
-    let grade : to_z w32 (of_z w32 (grade_of numbers)) ≡ grade_of numbers = search rules in
-    unfit_datum numbers (sym c.any_long-long.ensures ∙ c.if-long.false) (sym c.any_below-below.ensures ∙ c.if-below.false)
-    (c.is_wrong_datum.ensures
-    ∙ ap₂ (λ (m h : ℤ). wrong_datum m h (to_z w32 (of_z w32 (grade_of numbers)))) mark height
-    ∙ ap (wrong_datum (mark_of numbers) (height_of numbers)) grade)
+    let long = any_from_yields_List (λ z. nat_abs z above 9999999) _ _ _ c.any-long.ensures.ran (YieldsList-from_slice numbers cc) (λ x b q k. search (rules, tests)) in
+    let below = any_from_yields_List (λ z. lt_z z (pos 0)) _ _ _ c.any-below.ensures.ran (YieldsList-from_slice (eight_of numbers) cc) (λ x b q k. search (rules, tests)) in
+    let unfit = unfit_numbers numbers long below c.if-below.either in
+    rw unfit (search rules)
+
+pub returns-else-below : goal.returns-else-below
+returns-else-below c =
+    let numbers = c.args.numbers.now in
+    let long = any_from_yields_List (λ z. nat_abs z above 9999999) _ _ _ c.any-long.ensures.ran (YieldsList-from_slice numbers cc) (λ x b q k. search (rules, tests)) in
+    let below = any_from_yields_List (λ z. lt_z z (pos 0)) _ _ _ c.any-below.ensures.ran (YieldsList-from_slice (eight_of numbers) cc) (λ x b q k. search (rules, tests)) in
+    unfit_datum numbers long below c.if-below.false (search rules)

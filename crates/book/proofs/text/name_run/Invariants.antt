@@ -7,12 +7,8 @@ use Rattle.book.proofs.text.name_run.Given as goal
 
 abbrev pub invariant-loop-n : goal.invariant-loop-n
 invariant-loop-n l = record {
-  upper : l.n ≤ l.most;
-  inside : l.from + l.n ≤ length l.text;
+  inside : 0 < l.n → l.from + l.n ≤ length l.text;
   small : l.key < 256 ^ l.n;
   kept : l.key ≡ key_from l.n l.text l.from;
   rest : name_run l.most l.text l.from ≡ l.n + name_run (l.most - l.n) l.text (l.from + l.n);
 }
-
-abbrev pub decreases-loop-n : goal.decreases-loop-n
-decreases-loop-n l = l.most - l.n

@@ -1,30 +1,29 @@
 -- `book::text::read_name` meets its contract.
 -- Assumes nothing.
-use Rattle.std.proofs.Common.{ap, arith, eq-eqb, ne_eqb, ◌≡◌}
-use Rattle.book.proofs.Names.{run_in}
-use Rattle.book.specs.Name.{name_at, name_run}
-use Rattle.book.specs.Reading.{key_at}
+use Rattle.std.proofs.Common.{ap, arith, eqb, sym, ◌+◌, ◌∙◌, ◌≡◌, ℕ}
+use Rattle.std.specs.Bool.{then_some}
+use Rattle.book.proofs.Names.{read_none, read_some, run_inside}
+use Rattle.book.specs.Name.{name_run}
+use Rattle.book.specs.Number.{byte_at}
 use Rattle.book.specs.declared.text.ReadName.{ReadName}
 use Rattle.book.proofs.text.read_name.Goals as goal
+
+pub returns-then-run-eq0 : goal.returns-then-run-eq0
+returns-then-run-eq0 c = sym (read_none c.args.text.now c.args.at (sym (ap (λ (r : ReadName). r.size) c.name_run-run.ensures) ∙ c.if-run-eq0.true))
 
 pub overflow_add-at : goal.overflow_add-at
 overflow_add-at c =
     let a = c.args in
     let size = ap (λ (r : ReadName). r.size) c.name_run-run.ensures in
-    omega (arith, run_in a.text.now 8 a.at c.requires)
+    omega (arith, run_inside a.text.now 8 a.at (omega arith))
 
-pub returns-then-b-eq32 : goal.returns-then-b-eq32
-unfolding name_at
-returns-then-b-eq32 c =
-    let size : c.name_run-run.result.size ≡ name_run 8 c.args.text.now c.args.at = ap (λ (r : ReadName). r.size) c.name_run-run.ensures in
-    let key : c.name_run-run.result.key ≡ key_at c.args.text.now c.args.at = ap (λ (r : ReadName). r.key) c.name_run-run.ensures in
-    let named : c.name_run-run.result.size ≡ name_at c.args.text.now c.args.at = simp (← size, ← c.byte_at-b.ensures, eq-eqb _ _ c.if-b-eq32.true) in
-    λ i. record { size = named i; key = key i }
-
-pub returns-else-b-eq32 : goal.returns-else-b-eq32
-unfolding name_at
-returns-else-b-eq32 c =
-    let size : c.name_run-run.result.size ≡ name_run 8 c.args.text.now c.args.at = ap (λ (r : ReadName). r.size) c.name_run-run.ensures in
-    let key : c.name_run-run.result.key ≡ key_at c.args.text.now c.args.at = ap (λ (r : ReadName). r.key) c.name_run-run.ensures in
-    let unnamed : 0 ≡ name_at c.args.text.now c.args.at = simp (← size, ← c.byte_at-b.ensures, ne_eqb _ _ c.if-b-eq32.false) in
-    λ i. record { size = unnamed i; key = key i }
+pub returns : goal.returns
+returns c =
+    let s = c.args.text.now in
+    let at = c.args.at in
+    let run = c.name_run-run in
+    let size : run.result.size ≡ name_run 8 s at = ap (λ (r : ReadName). r.size) run.ensures in
+    let blank : c.byte_at.result ≡ byte_at s (at + name_run 8 s at) = c.byte_at.ensures ∙ ap (λ (n : ℕ). byte_at s (at + n)) size in
+    c.then_some.ensures
+    ∙ (λ i. then_some (eqb (blank i) 32) (run.ensures i))
+    ∙ sym (read_some s at (λ z. c.if-run-eq0.false (size ∙ z)))

@@ -1,52 +1,36 @@
 -- `book::write::write_bodies` meets its contract.
 -- Assumes nothing.
-use Rattle.std.proofs.Common.{◌+◌, List, ap, arith, length, sym, ℤ, ◌∙◌}
-use Rattle.std.proofs.lemmas.List.Edits.{sets}
-use Rattle.book.proofs.WriterLines.{bodies_after, bodies_all, bodies_none, body_in, body_long, texts_none, texts_size_turn, texts_turn, unfits_turn}
-use Rattle.book.specs.Printed.{body_text, body_texts}
-use Rattle.book.specs.Writing.{is_unfit, some_unfit}
+use Rattle.std.proofs.Common.{[], get_or, rules, ap, sym, ◌∙◌}
 use Rattle.decimal.proofs.Choices.{or-none}
-use Rattle.decimal.proofs.Stores.{stores_next}
+use Rattle.decimal.proofs.Rests.{rest_next, rest_none, rest_room}
+use Rattle.book.proofs.WriterCurves.{bodies_none, bodies_turn, last_eleven, unfit_turn}
+use Rattle.book.specs.Writing.{is_unfit}
 use Rattle.book.proofs.write.write_bodies.Goals as goal
 
-pub write_body-out-requires-clause-numbers_len : goal.write_body-out-requires-clause-numbers_len
-write_body-out-requires-clause-numbers_len c =
-    let n = c.args.n in
-    let list = c.args.list.now in
-    let i = c.loop-i.i in
-    let some = c.loop-i-test.true in
-    let fit = or-none (is_unfit (body_in list i)) (some_unfit (bodies_after n list (i + 1))) (sym (unfits_turn n list i some) ∙ c.loop-i.invariant.fit) in
-    (body_long list n i c.requires.n_in_bounds.0 some, fit.0)
+pub write_body-requires-clause-fit : goal.write_body-requires-clause-fit
+write_body-requires-clause-fit c =
+    let l = c.loop-curve in
+    let numbers = last_eleven (get_or c.args.curves.now.numbers.now l.curve-index []) (search rules) c.last_chunk.ensures.cases c.unwrap.ensures in
+    ap is_unfit numbers ∙ (or-none _ _ (sym (unfit_turn c.args.curves.now.numbers.now l.curve-index c.loop-curve-test.true) ∙ l.invariant.fit)).0
 
-pub write_body-out-requires-clause-numbers_in_bounds : goal.write_body-out-requires-clause-numbers_in_bounds
-write_body-out-requires-clause-numbers_in_bounds c =
-    let n = c.args.n in
-    let list = c.args.list.now in
-    let i = c.loop-i.i in
-    let some = c.loop-i-test.true in
-    omega (arith, texts_size_turn n list i some, ap (λ (b : List (List ℤ)). length (body_texts b)) (bodies_all n list), c.requires.list_in_bounds)
+pub write_body-requires-clause-room : goal.write_body-requires-clause-room
+write_body-requires-clause-room c =
+    let l = c.loop-curve in
+    let numbers = last_eleven (get_or c.args.curves.now.numbers.now l.curve-index []) (search rules) c.last_chunk.ensures.cases c.unwrap.ensures in
+    let turn = bodies_turn c.args.curves.now.numbers.now l.curve-index c.loop-curve-test.true numbers in
+    rest_room c.args.place.now l.place _ _ _ turn l.invariant.left c.requires.room
 
-pub loop-i-preserved : goal.loop-i-preserved
-loop-i-preserved c =
-    let n = c.args.n in
-    let list = c.args.list.now in
-    let i = c.loop-i.i in
-    let some = c.loop-i-test.true in
-    let fit = or-none (is_unfit (body_in list i)) (some_unfit (bodies_after n list (i + 1))) (sym (unfits_turn n list i some) ∙ c.loop-i.invariant.fit) in
-    let l = c.loop-i in
-    let p = c.write_body-out in
+pub loop-curve-preserved : goal.loop-curve-preserved
+loop-curve-preserved c =
+    let l = c.loop-curve in
+    let numbers = last_eleven (get_or c.args.curves.now.numbers.now l.curve-index []) (search rules) c.last_chunk.ensures.cases c.unwrap.ensures in
+    let turn = bodies_turn c.args.curves.now.numbers.now l.curve-index c.loop-curve-test.true numbers in
     record {
-      upper = omega arith;
-      fit = fit.1;
-      room = omega (arith, texts_size_turn n list i some, p.ensures.value);
-      stored = l.invariant.stored
-          ∙ stores_next (body_text (body_in list i)) _ l.buffer l.out (texts_turn n list i some) p.ensures.buffer_after p.ensures.value;
+      fit = (or-none _ _ (sym (unfit_turn c.args.curves.now.numbers.now l.curve-index c.loop-curve-test.true) ∙ l.invariant.fit)).1;
+      left = rest_next c.args.place.now l.place _ _ _ turn l.invariant.left c.write_body.new.place c.write_body.ensures;
     }
 
 pub returns : goal.returns
 returns c =
-    let a = c.args in
-    let l = c.loop-i in
-    let none = ap body_texts (bodies_none a.n a.list.now l.i c.loop-i-test.false) ∙ texts_none in
-    sym (ap (λ (b : List (List ℤ)). sets a.buffer.now a.at (body_texts b)) (sym (bodies_all a.n a.list.now))
-    ∙ l.invariant.stored ∙ ap (sets l.buffer l.out) none)
+    let l = c.loop-curve in
+    rest_none c.args.place.now l.place _ (bodies_none c.args.curves.now.numbers.now l.curve-index c.loop-curve-test.false) l.invariant.left

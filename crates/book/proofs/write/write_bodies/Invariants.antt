@@ -1,19 +1,13 @@
 -- `book::write::write_bodies`: the bodies so far are written.
 -- Assumes nothing.
-use Rattle.std.proofs.Common.{◌≡◌, ◌+◌, ◌-◌, ◌≤◌, false, length}
-use Rattle.std.proofs.lemmas.List.Edits.{sets}
-use Rattle.book.specs.Printed.{body_texts}
+use Rattle.std.proofs.Common.{drop, false, ◌≡◌}
+use Rattle.decimal.proofs.Rests.{Rest}
+use Rattle.book.specs.WriterSteps.{bodies_left, cards_in}
 use Rattle.book.specs.Writing.{some_unfit}
-use Rattle.book.proofs.WriterLines.{bodies_after}
 use Rattle.book.proofs.write.write_bodies.Given as goal
 
-abbrev pub invariant-loop-i : goal.invariant-loop-i
-invariant-loop-i l = record {
-  upper : l.i ≤ l.n;
-  fit : some_unfit (bodies_after l.n l.list l.i) ≡ false;
-  room : l.out + length (body_texts (bodies_after l.n l.list l.i)) ≡ l.at + length (body_texts (bodies_after l.n l.list 0));
-  stored : sets l.fn.buffer l.at (body_texts (bodies_after l.n l.list 0)) ≡ sets l.buffer l.out (body_texts (bodies_after l.n l.list l.i));
+abbrev pub invariant-loop-curve : goal.invariant-loop-curve
+invariant-loop-curve l = record {
+  fit : some_unfit (cards_in (drop l.curve-index l.curves.numbers.now)) ≡ false;
+  left : Rest l.fn.place l.place (bodies_left l.curves.numbers.now 0) (bodies_left l.curves.numbers.now l.curve-index);
 }
-
-abbrev pub decreases-loop-i : goal.decreases-loop-i
-decreases-loop-i l = l.n - l.i

@@ -1,5 +1,4 @@
 pub mod Buffers
-pub mod Parts
 pub mod RowTexts
 pub mod SheetLaws
 pub mod Sheets

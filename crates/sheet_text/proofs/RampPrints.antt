@@ -1,12 +1,7 @@
 -- Document 01's own sheet, and that of its card above the benchmark, from the rows of the cards, and its two refusals. What the cards, their
 -- rows and their books are is cited.
 -- Assumes nothing.
-use mathlib.Core.Path.{◌≡◌, refl, sym, ap, ap₂, ◌∙◌}
-use mathlib.Core.List.{List, [], ◌∷◌, ◌++◌}
-use Prim.Native.Nat.{ℕ, zero, suc}
-use lib.Dec.{lit≤}
-use lib.IntN.{ℤ, pos, negsuc}
-use lib.ListN.{length, take, drop, replicate}
+use Rattle.std.proofs.Common.{◌≡◌, refl, sym, ap, ap₂, ◌∙◌, List, [], ◌∷◌, ◌++◌, ℕ, zero, suc, lit≤, ℤ, pos, negsuc, length, take, drop, replicate}
 use Rattle.decimal.specs.Decimal.{most_digits, signed_text}
 use Rattle.decimal.proofs.Digits.{digits_into, digits_into_lem}
 use Rattle.card.specs.declared.Card.{Card}

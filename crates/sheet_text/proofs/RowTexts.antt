@@ -1,31 +1,12 @@
--- The text of a row number by number, and the text of a table's first rows row by row: their lengths, and their bytes as stores.
+-- The text of a row number by number, and the text of rows row by row.
 -- Assumes nothing.
-use Prim.Native.Nat.{ℕ, suc, ◌+◌, ◌-◌, ◌*◌, ◌^◌, ◌≤◌, ◌<◌}
-use mathlib.Core.Path.{◌≡◌, ap, ◌∙◌}
-use mathlib.Core.List.{List, [], ◌∷◌, ◌++◌}
-use native.Mathlib.Omega.{arith}
-use native.Mathlib.Numerals.{add-one}
-use lib.IntN.{ℤ, pos}
-use lib.Signed.{mag}
-use lib.ListN.{length, get_or, take, drop, set, length-append, length-take, length-drop, drop_of_length-le}
-use lib.Seq.{sets, drop-cons, drop-drop}
-use mir.Syntax.{w32}
-use mir.Val.{hbits, to_z, of_z}
-use mir.Facts.{to_z-of_z}
+use Rattle.std.proofs.Common.{ℕ, suc, zero, ◌+◌, ◌-◌, ◌/◌, ◌≤◌, ◌<◌, min, ◌≡◌, List, [], ◌∷◌, ◌++◌, flat_map, length, get_or, take, drop, length-append, length-drop, add-one, drop-cons, drop_of_length-le, append_assoc, refl, ap, sym, ◌∙◌, arith, ℤ, pos}
+use Rattle.std.specs.Simd.{first_chunks}
 use Rattle.decimal.specs.Decimal.{signed_text}
-use Rattle.decimal.proofs.Stores.{stores_next}
 use Rattle.runoff.specs.Rows.{row_width}
 use Rattle.book.specs.Body.{end_of}
 use Rattle.book.proofs.LineLaws.{end_some}
-use Rattle.sheet_text.specs.Text.{row_text, rows_text}
-
--- the number at a place of a row
-abbrev pub number_in : List ℤ → ℕ → ℤ
-number_in row i = get_or row i (pos 0)
-
--- how the code reads it, as a number of 32 bits
-abbrev pub read_in : List ℤ → ℕ → ℤ
-read_in row i = to_z w32 (of_z w32 (number_in row i))
+use Rattle.sheet_text.specs.Text.{row_text, rows_text, held_rows}
 
 -- past the last number, no text
 pub row-none : (row : List ℤ) (i : ℕ) → length row ≤ i → row_text (drop i row) ≡ []
@@ -39,61 +20,45 @@ end_last n j e = let z : n - j ≡ 0 = omega arith in ap end_of z
 pub end_other : (n j : ℕ) → j ≤ n → (j ≡ n → ⊥) → end_of (n - j) ≡ 32
 end_other n j l h = end_some (n - j) (λ e. h (omega arith))
 
-module _ (row : List ℤ) (i : ℕ) (inside : i < length row) (fits : mag (number_in row i) < 2 ^ hbits w32) where
+module _ (row : List ℤ) (i : ℕ) (inside : i < length row) where
   -- the text from a number on: its digits, the byte after it, and the text from the next number on
-  pub row_turn : row_text (drop i row) ≡ signed_text (read_in row i) ++ (end_of (length row - (i + 1)) ∷ row_text (drop (i + 1) row))
+  pub row_turn : row_text (drop i row) ≡ (signed_text (get_or row i (pos 0)) ++ (end_of (length row - (i + 1)) ∷ [])) ++ row_text (drop (i + 1) row)
   unfolding row_text
   row_turn =
-      let read : read_in row i ≡ number_in row i = to_z-of_z {w = w32} (record { sfits = fits }) in
-      ap row_text (drop-cons row i (pos 0) inside) ∙ rw (length-drop, add-one, read)
+      ap row_text (drop-cons row i (pos 0) inside)
+      ∙ rw (length-drop, add-one) (sym (append_assoc (signed_text (get_or row i (pos 0))) (end_of (length row - suc i) ∷ []) (row_text (drop (suc i) row))))
 
-  pub row_size_turn : length (row_text (drop i row)) ≡ length (signed_text (read_in row i)) + 1 + length (row_text (drop (i + 1) row))
-  row_size_turn = ap length row_turn ∙ length-append (signed_text (read_in row i)) _ ∙ omega arith
+  pub row_size_turn : length (row_text (drop i row)) ≡ length (signed_text (get_or row i (pos 0))) + 1 + length (row_text (drop (i + 1) row))
+  row_size_turn = ap length row_turn ∙ simp length-append (omega arith)
 
-  -- one number stored, and the byte after it
-  pub row_stores_turn : (l : List ℕ) (at : ℕ) {stored : List ℕ} {place byte : ℕ}
-      → stored ≡ sets l at (signed_text (read_in row i)) → place ≡ at + length (signed_text (read_in row i)) → byte ≡ end_of (length row - (i + 1))
-      → sets l at (row_text (drop i row)) ≡ sets (set stored place byte) (place + 1) (row_text (drop (i + 1) row))
-  row_stores_turn l at {place = place} s p b = stores_next (signed_text (read_in row i)) _ l at row_turn s p ∙ rw (b, add-one place)
+-- past the last row, no text
+pub rows_none : (rows : List (List ℤ)) (i : ℕ) → length rows ≤ i → flat_map row_text (drop i rows) ≡ []
+rows_none rows i h = ap (flat_map row_text) (drop_of_length-le rows h)
 
--- the part of a table that the code lends for its row i: seven numbers
-abbrev pub row_in : List ℤ → ℕ → List ℤ
-row_in table i = take (row_width * i + row_width - row_width * i) (drop (row_width * i) table)
+-- a row, and the rows after it
+pub rows_turn : (rows : List (List ℤ)) (i : ℕ) → i < length rows → flat_map row_text (drop i rows) ≡ row_text (get_or rows i []) ++ flat_map row_text (drop (i + 1) rows)
+rows_turn rows i h = ap (flat_map row_text) (drop-cons rows i [] h) ∙ rw add-one
 
--- the text of the rows from row i on
-abbrev pub rows_from : ℕ → List ℤ → ℕ → List ℕ
-rows_from count table i = rows_text (count - i) (drop (row_width * i) table)
+pub rows_size_turn : (rows : List (List ℤ)) (i : ℕ) → i < length rows
+    → length (flat_map row_text (drop i rows)) ≡ length (row_text (get_or rows i [])) + length (flat_map row_text (drop (i + 1) rows))
+rows_size_turn rows i h = ap length (rows_turn rows i h) ∙ length-append (row_text (get_or rows i [])) _
 
--- from the first row on, all rows
-pub rows_all : (count : ℕ) (table : List ℤ) → rows_from count table 0 ≡ rows_text count table
-rows_all count table = let z : count - 0 ≡ count = omega arith in ap (λ (k : ℕ). rows_text k table) z
+-- the rows cut from a table: the first of more, and their text
+first_few : (k count : ℕ) (table : List ℤ) → k ≤ count → take k (first_chunks row_width count table) ≡ first_chunks row_width k table
+first_few zero count table h = refl
+first_few (suc k) zero table h = absurd (omega arith)
+first_few (suc k) (suc count) table h = ap (λ (rows : List (List ℤ)). take row_width table ∷ rows) (first_few k count (drop row_width table) (omega arith))
 
-module _ (count : ℕ) (table : List ℤ) (i : ℕ) where
-  -- past the last row, no text
-  pub rows_none : count ≤ i → rows_from count table i ≡ []
-  unfolding rows_text
-  rows_none h = let z : count - i ≡ 0 = omega arith in ap (λ (k : ℕ). rows_text k (drop (row_width * i) table)) z
+cut_text : (k : ℕ) (table : List ℤ) → flat_map row_text (first_chunks row_width k table) ≡ rows_text k table
+unfolding rows_text
+cut_text zero table = refl
+cut_text (suc k) table = ap (λ (text : List ℕ). row_text (take row_width table) ++ text) (cut_text k (drop row_width table))
 
-  -- a row, and the rows after it
-  pub rows_turn : i < count → rows_from count table i ≡ row_text (row_in table i) ++ rows_from count table (i + 1)
-  unfolding rows_text
-  rows_turn h =
-      let one : count - i ≡ suc (count - (i + 1)) = omega arith in
-      let seven : row_width * i + row_width - row_width * i ≡ row_width = omega arith in
-      let next : row_width * (i + 1) ≡ row_width * i + row_width = omega arith in
-      rw (one, seven, next, drop-drop row_width (row_width * i) table)
-
-  pub rows_size_turn : i < count → length (rows_from count table i) ≡ length (row_text (row_in table i)) + length (rows_from count table (i + 1))
-  rows_size_turn h = ap length (rows_turn h) ∙ length-append (row_text (row_in table i)) _
-
-  -- one row stored
-  pub rows_stores_turn : i < count → (l : List ℕ) (at : ℕ) {stored : List ℕ} {place : ℕ}
-      → stored ≡ sets l at (row_text (row_in table i)) → place ≡ at + length (row_text (row_in table i))
-      → sets l at (rows_from count table i) ≡ sets stored place (rows_from count table (i + 1))
-  rows_stores_turn h l at s p = stores_next (row_text (row_in table i)) _ l at (rows_turn h) s p
-
--- a row of the table has seven numbers
-pub row_long : (table : List ℤ) (count i : ℕ) → row_width * count ≤ length table → i < count → length (row_in table i) ≡ row_width
-row_long table count i h l =
-    length-take (row_width * i + row_width - row_width * i) (drop (row_width * i) table)
-    ∙ omega (arith, length-drop (row_width * i) table)
+-- the rows that are written are those that the table holds
+pub held_text : (table : List ℤ) (held : List (List ℤ)) (count k : ℕ) → held ≡ first_chunks row_width (length table / row_width) table
+    → length held ≡ length table / row_width → k ≡ min (length held) count → flat_map row_text (take k held) ≡ rows_text (held_rows count table) table
+held_text table held count k cut long e =
+    let few : k ≤ length table / row_width = omega (arith, long, e) in
+    let same : k ≡ held_rows count table = omega (arith, long, e) in
+    ap (λ (rows : List (List ℤ)). flat_map row_text (take k rows)) cut ∙ ap (flat_map row_text) (first_few k (length table / row_width) table few) ∙ cut_text k table
+    ∙ ap (λ (n : ℕ). rows_text n table) same

@@ -1,12 +1,6 @@
 -- Laws of the texts of a sheet: the lines of the rows that stand in a table, and how many bytes each text has at most.
 -- Assumes nothing.
-use Prim.Native.Nat.{ℕ, zero, suc, ◌+◌, ◌*◌, ◌≤◌}
-use mathlib.Core.Path.{◌≡◌, sym, ap, ap₂, ◌∙◌}
-use mathlib.Core.List.{List, [], ◌∷◌, ◌++◌, append_assoc, append-nil}
-use native.Mathlib.Omega.{arith}
-use lib.IntN.{ℤ, pos, negsuc}
-use lib.ListN.{length, take, drop, length-append}
-use lib.Seq.{take_at, drop_at, drop-drop}
+use Rattle.std.proofs.Common.{ℕ, zero, suc, ◌+◌, ◌*◌, ◌≤◌, ◌≡◌, sym, ap, ap₂, ◌∙◌, List, [], ◌∷◌, ◌++◌, append_assoc, append-nil, arith, ℤ, pos, negsuc, length, take, drop, length-append, take_at, drop_at, drop-drop}
 use Rattle.decimal.specs.Decimal.{most_digits, signed_text}
 use Rattle.decimal.proofs.Digits.{digits_most}
 use Rattle.card.specs.declared.Card.{Card}

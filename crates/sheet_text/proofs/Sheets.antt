@@ -1,13 +1,7 @@
 -- The sheet of a book: what the calls give for each of its curves, that no curve needs more bytes than stated, and the whole sheet.
 -- Assumes nothing.
-use Prim.Native.Nat.{ℕ, zero, suc, ◌*◌, ◌≤◌, ◌<◌}
-use mathlib.Core.Path.{◌≡◌, refl, sym, ap, ap₂, ◌∙◌, subst}
-use mathlib.Core.List.{List, [], ◌∷◌, ◌++◌, append-nil, append_assoc}
-use native.Mathlib.Omega.{arith}
-use lib.Dec.{eqb}
-use lib.IntN.{ℤ}
-use lib.ListN.{length, drop, length-append}
-use borrow.Author.Tests.{eqb-true, eqb-false, ne_eqb}
+use Rattle.std.proofs.Common.{ℕ, zero, suc, ◌*◌, ◌≤◌, ◌<◌, ◌≡◌, refl, sym, ap, ap₂, ◌∙◌, subst, List, [], ◌∷◌, ◌++◌, append-nil, append_assoc, arith, eqb, ℤ, length, drop, length-append, eqb-true, ne_eqb}
+use Rattle.std.proofs.lemmas.Bool.{eqb-false}
 use Rattle.decimal.specs.Decimal.{most_digits}
 use Rattle.decimal.proofs.Choices.{cond_case}
 use Rattle.decimal.proofs.Digits.{digits_most}
@@ -18,8 +12,7 @@ use Rattle.runoff.specs.Table.{reply_to, table_after}
 use Rattle.runoff.proofs.Accepts.{accepted_rule}
 use Rattle.runoff.proofs.Replies.{refused, filled}
 use Rattle.runoff.proofs.RowBlocks.{all_rows, length-rows}
-use Rattle.book.specs.declared.BookReply.{BookReply}
-use Rattle.book.specs.Book.{least_list, reply_to_book, list_after}
+use Rattle.book.specs.Book.{BookReply, least_list, reply_to_book, list_after}
 use Rattle.book.specs.Printed.{Curve, IsName, IsBook, book_text}
 use Rattle.book.proofs.BookMeaning.{meaning}
 use Rattle.book.proofs.BookReasons.{reasons}

@@ -6,8 +6,7 @@ use Rattle.runoff.specs.Rows.{cells, row_of, station_of, row_count}
 use Rattle.runoff.specs.Refusal.{refusal}
 use Rattle.runoff.specs.Table.{reply_to, table_after}
 use Rattle.card_list.specs.List.{card_of, card_in, name_in}
-use Rattle.book.specs.declared.BookReply.{BookReply}
-use Rattle.book.specs.Book.{least_list, reply_to_book, list_after}
+use Rattle.book.specs.Book.{BookReply, least_list, reply_to_book, list_after}
 use Rattle.book.specs.Printed.{Curve, IsBook, book_text}
 use Rattle.sheet_text.specs.Text.{row_text, ended_text, blank, curve_text, refused_text, book_line}
 

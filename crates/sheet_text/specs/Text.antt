@@ -3,9 +3,9 @@
 -- Assumes nothing.
 use Rattle.std.specs.Prelude.{ℕ, zero, suc, ◌/◌, min, cond, List, [], ◌∷◌, ◌++◌, eqb, ℤ, length, take, drop}
 use Rattle.decimal.specs.Decimal.{count_text, signed_text}
-use Rattle.card.specs.declared.Reply.{Reply}
+use Rattle.card.specs.Table.{Reply}
 use Rattle.runoff.specs.Rows.{row_width}
-use Rattle.book.specs.declared.BookReply.{BookReply}
+use Rattle.book.specs.Book.{BookReply}
 use Rattle.book.specs.Body.{end_of}
 
 -- the numbers of a row: one blank (byte 32) between two, byte 10 after the last

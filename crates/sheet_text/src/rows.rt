@@ -1,76 +1,54 @@
 // The lines of a table's rows.
-ghost use Rattle.std.specs.Prelude.{◌≡◌, ◌+◌, ◌*◌, ◌≤◌, length};
-ghost use Rattle.std.proofs.lemmas.List.Edits.{sets};
-ghost use Rattle.runoff.specs.Rows.{row_width};
-ghost use Rattle.sheet_text.specs.Buffer.{Measures};
-ghost use Rattle.sheet_text.specs.Text.{row_text, rows_text};
+ghost use Rattle.std.specs.Prelude.{◌≡◌, ◌+◌, ◌≤◌, length};
+ghost use Rattle.std.specs.List.{flat_map};
+ghost use Rattle.decimal.specs.Places.{HasRoom, Wrote};
+ghost use Rattle.sheet_text.specs.Buffer.{sized};
+ghost use Rattle.sheet_text.specs.Text.{row_text};
 
-use crate::Written;
 use crate::line::more_bytes;
-use decimal::{put_signed, signed_size};
+use decimal::{Place, Text};
 use runoff::ROW_WIDTH;
 
 // How many bytes the line of a row has.
-fn row_size(row: &[i32]) -> usize
-    requires { length row.now ≡ row_width }
+fn row_size(row: &[i32; ROW_WIDTH]) -> usize
     ensures { result ≡ length (row_text row.now) }
 {
-    let mut size: usize = 0;
-    let mut i: usize = 0;
-    while i < row.len() {
-        size += signed_size(row[i]) + 1;
-        i += 1;
+    let mut size = 0;
+    for v in row {
+        size += v.size() + 1;
     }
     size
 }
 
-// Writes the line of a row from a place on, and returns the place after it.
-fn write_row(row: &[i32], buffer: &mut [u8], at: usize) -> usize
-    requires { at + length (row_text row.now) ≤ length buffer.old }
-    ensures value { result ≡ at + length (row_text row.now) }
-    ensures buffer_after { buffer.new ≡ sets buffer.old at (row_text row.now) }
+// Writes the line of a row.
+fn write_row(row: &[i32; ROW_WIDTH], place: &mut Place)
+    requires { HasRoom place.old (row_text row.now) }
+    ensures { Wrote place.old place.new (row_text row.now) }
 {
-    let mut place = at;
-    let mut i: usize = 0;
-    while i < row.len() {
-        place = put_signed(row[i], buffer, place);
-        i += 1;
-        buffer[place] = if i == row.len() { b'\n' } else { b' ' };
-        place += 1;
+    for (i, v) in row.iter().enumerate() {
+        let end = if i + 1 == row.len() { b'\n' } else { b' ' };
+        place.put_ended(*v, end);
     }
-    place
 }
 
-// A text with the lines of the first rows of a table behind what is measured so far.
-pub(crate) fn rows_size(table: &[i32], count: usize, done: Written, room: usize) -> Written
-    requires count_in_bounds { row_width * count ≤ length table.now }
-    requires count_le_room { done.count ≤ room }
-    ensures count_le_room_2 { result.count ≤ room }
-    ensures measures { Measures done (length (rows_text count table.now)) room result }
+// A text of `done` bytes with the lines of these rows behind it; none where it does not fit.
+pub(crate) fn rows_size(rows: &[[i32; ROW_WIDTH]], done: usize, room: usize) -> Option<usize>
+    requires { done ≤ room }
+    ensures { result ≡ sized (done + length (flat_map row_text rows.now)) room }
 {
-    let mut measured = done;
-    let mut i: usize = 0;
-    while i < count {
-        let start = ROW_WIDTH * i;
-        let end = start + ROW_WIDTH;
-        measured = more_bytes(measured, row_size(&table[start..end]), room);
-        i += 1;
+    let mut size = done;
+    for row in rows {
+        size = more_bytes(size, row_size(row), room)?;
     }
-    measured
+    Some(size)
 }
 
-// Writes the lines of the first rows of a table from a place on.
-pub(crate) fn write_rows(table: &[i32], count: usize, buffer: &mut [u8], at: usize)
-    requires count_in_bounds { row_width * count ≤ length table.now }
-    requires table_in_bounds { at + length (rows_text count table.now) ≤ length buffer.old }
-    ensures { buffer.new ≡ sets buffer.old at (rows_text count table.now) }
+// Writes the lines of these rows.
+pub(crate) fn write_rows(rows: &[[i32; ROW_WIDTH]], place: &mut Place)
+    requires { HasRoom place.old (flat_map row_text rows.now) }
+    ensures { Wrote place.old place.new (flat_map row_text rows.now) }
 {
-    let mut place = at;
-    let mut i: usize = 0;
-    while i < count {
-        let start = ROW_WIDTH * i;
-        let end = start + ROW_WIDTH;
-        place = write_row(&table[start..end], buffer, place);
-        i += 1;
+    for row in rows {
+        write_row(row, place);
     }
 }

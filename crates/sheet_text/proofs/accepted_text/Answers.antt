@@ -1,100 +1,114 @@
--- `sheet_text::accepted_text` meets its contract: the whole text is measured, and where it fits the name is stored, the end of its line, and the
--- rows that the table holds.
+-- `sheet_text::accepted_text` meets its contract: the whole text is measured, and where it fits the name is put, and the end of its line and the
+-- rows that the table holds are written.
 -- Assumes nothing.
-use Rattle.std.proofs.Common.{◌≡◌, ◌+◌, ◌≤◌, ◌++◌, List, ℕ, ℤ, true, length, length-append, append_assoc, ap, ◌∙◌, arith}
-use Rattle.std.proofs.lemmas.List.Edits.{sets}
+use Rattle.std.proofs.Common.{◌≡◌, ◌+◌, ◌<◌, ◌++◌, List, ℕ, ℤ, None, Some, length, length-append, sym, ap, ◌∙◌, arith, rules}
 use Rattle.decimal.specs.Decimal.{count_text}
-use Rattle.decimal.proofs.Stores.{Stored}
-use Rattle.decimal.proofs.Puts.{Puts, stored_puts}
-use Rattle.sheet_text.specs.declared.Written.{Written}
-use Rattle.sheet_text.specs.Buffer.{sized, written_of, buffer_after}
+use Rattle.decimal.specs.Places.{Puts}
+use Rattle.decimal.specs.declared.Place.{Place}
+use Rattle.sheet_text.specs.Buffer.{sized, written_of}
 use Rattle.sheet_text.specs.Text.{rows_text, held_rows, ended_text, blank, accepted_text}
-use Rattle.sheet_text.proofs.Buffers.{sized_in, fits_of, answered_stored, answered_kept, ended_length, then_stored}
+use Rattle.sheet_text.proofs.Buffers.{Begun, fits_of, over_of, sized_over, kept_over, begun, room_on, written_on, room_last, written_last, ended_length}
+use Rattle.sheet_text.proofs.RowTexts.{held_text}
 use Rattle.sheet_text.proofs.accepted_text.Goals as goal
 
-module _ (name buffer : List ℕ) (count : ℕ) (table : List ℤ) where
+module _ (name buffer : List ℕ) (count : ℕ) (table : List ℤ) {rows : List ℕ} (held : rows ≡ rows_text (held_rows count table) table) where
   abbrev text : List ℕ
   text = accepted_text name count table
 
   abbrev ended : List ℕ
   ended = ended_text blank count
 
-  abbrev rows : ℕ → List ℕ
-  rows k = rows_text k table
+  parts : text ≡ name ++ (ended ++ rows)
+  unfolding accepted_text
+  parts = ap (λ (t : List ℕ). name ++ (ended ++ t)) (sym held)
 
-  -- the rows that are written are those that the table holds
-  held : {k : ℕ} → k ≡ held_rows count table → rows k ≡ rows (held_rows count table)
-  held e = ap rows e
+  text_length : length text ≡ length name + (length ended + length rows)
+  text_length = ap length parts ∙ omega (arith, length-append name (ended ++ rows), length-append ended rows)
 
-  module _ {k : ℕ} (holds : k ≡ held_rows count table) where
-    text_length : length text ≡ length name + (length ended + length (rows k))
-    unfolding accepted_text
-    text_length =
-        let all = rows (held_rows count table) in
-        omega (arith, length-append name (ended ++ all), length-append ended all, ap length (held holds))
+  module _ {size : ℕ} (told : size ≡ 1 + length (count_text count) + 1) where
+    -- a line that does not fit, and one that does
+    over_heading : None ≡ sized (length name + size) (length buffer) → length buffer < length text
+    over_heading e = omega (arith, over_of (length name + size) (length buffer) e, text_length, ended_length blank count, told)
 
-    module _ {w : Written} (told : w ≡ sized (length name + (1 + length (count_text count) + 1) + length (rows k)) (length buffer)) where
-      measured : w ≡ written_of text (length buffer)
-      measured = told ∙ ap (λ (n : ℕ). sized n (length buffer)) (omega (arith, text_length, ended_length blank count))
+    measured : {heading : ℕ} → Some heading ≡ sized (length name + size) (length buffer)
+        → sized (heading + length rows) (length buffer) ≡ written_of text (length buffer)
+    measured e =
+        ap (λ (n : ℕ). sized n (length buffer))
+        (omega (arith, (fits_of (length name + size) (length buffer) e).1, text_length, ended_length blank count, told))
 
-      module _ (fits : w.fits ≡ true) {next : ℕ} {middle : List ℕ} (puts : Puts 0 name buffer next middle) (kept : length middle ≡ length buffer) where
-        named : Stored buffer 0 name middle next
-        named = stored_puts 0 name buffer (omega (arith, text_length, fits_of _ _ measured fits)) puts
+  -- behind the name the end of its line and the rows are left
+  named : {size : ℕ} → Some size ≡ written_of text (length buffer) → (start next : Place) → start.at ≡ 0 → start.buffer.now ≡ buffer → Puts start next name
+      → Begun text buffer next (ended ++ rows)
+  named fits start next first same put = begun text buffer name (ended ++ rows) fits parts start next first same put
 
-        heading_room : next + length ended ≤ length middle
-        heading_room = omega (arith, text_length, fits_of _ _ measured fits, named.0, kept)
-
-        module _ {end : ℕ} {after : List ℕ} (line : Stored middle next ended after end) (long : length after ≡ length middle) where
-          rows_room : end + length (rows k) ≤ length after
-          rows_room = omega (arith, text_length, fits_of _ _ measured fits, named.0, line.0, kept, long)
-
-          written : {last : List ℕ} → last ≡ sets after end (rows k) → last ≡ buffer_after text buffer
-          unfolding accepted_text
-          written e =
-              let heading = then_stored buffer 0 name ended named line in
-              let whole = then_stored buffer 0 (name ++ ended) (rows k) {end = end + length (rows k)} heading (omega arith, e) in
-              (answered_stored text buffer measured fits
-              (whole.1 ∙ ap (sets buffer 0) (append_assoc name ended (rows k) ∙ ap (λ (r : List ℕ). name ++ (ended ++ r)) (held holds)))).1
-
-pub rows_size-written-requires-clause-count_le_room : goal.rows_size-written-requires-clause-count_le_room
-rows_size-written-requires-clause-count_le_room c = rw c.heading_size-heading.ensures (sized_in _ _)
-
-pub write_ended-after_heading-requires : goal.write_ended-after_heading-requires
-write_ended-after_heading-requires c =
+pub returns-in_err-heading-clause-value : goal.returns-in_err-heading-clause-value
+returns-in_err-heading-clause-value c =
     let a = c.args in
-    let n = c.put_bytes-after_name in
-    heading_room a.name.now a.buffer.now a.count a.table.now c.smaller-rows.ensures (c.rows_size-written.ensures.measures _ c.heading_size-heading.ensures)
-    c.if-fits.true (n.ensures.value, n.ensures.buffer_after) n.auto.buffer
+    let t = c.as_chunks.ensures in
+    let held = held_text a.table.now _ a.count _ t.front t.front_len c.min.ensures in
+    c.from_residual.ensures ∙ sym (sized_over _ _ (over_heading a.name.now a.buffer.now a.count a.table.now held c.ended_size.ensures c.in_err-heading.ensures))
 
-pub write_rows-requires-clause-table_in_bounds : goal.write_rows-requires-clause-table_in_bounds
-write_rows-requires-clause-table_in_bounds c =
+pub returns-in_err-heading-clause-buffer_after : goal.returns-in_err-heading-clause-buffer_after
+returns-in_err-heading-clause-buffer_after c =
     let a = c.args in
-    let n = c.put_bytes-after_name in
-    let e = c.write_ended-after_heading in
-    rows_room a.name.now a.buffer.now a.count a.table.now c.smaller-rows.ensures (c.rows_size-written.ensures.measures _ c.heading_size-heading.ensures)
-    c.if-fits.true (n.ensures.value, n.ensures.buffer_after) n.auto.buffer (e.ensures.value, e.ensures.buffer_after) e.auto.buffer
+    let t = c.as_chunks.ensures in
+    let held = held_text a.table.now _ a.count _ t.front t.front_len c.min.ensures in
+    kept_over _ _ (over_heading a.name.now a.buffer.now a.count a.table.now held c.ended_size.ensures c.in_err-heading.ensures)
 
-pub returns-then-fits-clause-value : goal.returns-then-fits-clause-value
-returns-then-fits-clause-value c =
-    let a = c.args in
-    measured a.name.now a.buffer.now a.count a.table.now c.smaller-rows.ensures (c.rows_size-written.ensures.measures _ c.heading_size-heading.ensures)
+pub rows_size-requires : goal.rows_size-requires
+rows_size-requires c =
+    let told = fits_of _ _ c.in_ok-heading.ensures in
+    omega (arith, told.0, told.1)
 
-pub returns-then-fits-clause-buffer_after : goal.returns-then-fits-clause-buffer_after
-returns-then-fits-clause-buffer_after c =
+pub returns-in_err-size-clause-value : goal.returns-in_err-size-clause-value
+returns-in_err-size-clause-value c =
     let a = c.args in
-    let n = c.put_bytes-after_name in
-    let e = c.write_ended-after_heading in
-    written a.name.now a.buffer.now a.count a.table.now c.smaller-rows.ensures (c.rows_size-written.ensures.measures _ c.heading_size-heading.ensures)
-    c.if-fits.true (n.ensures.value, n.ensures.buffer_after) n.auto.buffer (e.ensures.value, e.ensures.buffer_after) e.auto.buffer c.write_rows.ensures
+    let t = c.as_chunks.ensures in
+    let held = held_text a.table.now _ a.count _ t.front t.front_len c.min.ensures in
+    c.from_residual-in_err-size.ensures ∙ c.in_err-size.ensures ∙ measured a.name.now a.buffer.now a.count a.table.now held c.ended_size.ensures c.in_ok-heading.ensures
 
-pub returns-else-fits-clause-value : goal.returns-else-fits-clause-value
-returns-else-fits-clause-value c =
+pub returns-in_err-size-clause-buffer_after : goal.returns-in_err-size-clause-buffer_after
+returns-in_err-size-clause-buffer_after c =
     let a = c.args in
-    measured a.name.now a.buffer.now a.count a.table.now c.smaller-rows.ensures (c.rows_size-written.ensures.measures _ c.heading_size-heading.ensures)
+    let t = c.as_chunks.ensures in
+    let held = held_text a.table.now _ a.count _ t.front t.front_len c.min.ensures in
+    kept_over _ _ (over_of _ _ (c.in_err-size.ensures ∙ measured a.name.now a.buffer.now a.count a.table.now held c.ended_size.ensures c.in_ok-heading.ensures))
 
-pub returns-else-fits-clause-buffer_after : goal.returns-else-fits-clause-buffer_after
-returns-else-fits-clause-buffer_after c =
+pub write_ended-requires : goal.write_ended-requires
+write_ended-requires c =
     let a = c.args in
-    let measured_text =
-    measured a.name.now a.buffer.now a.count a.table.now c.smaller-rows.ensures (c.rows_size-written.ensures.measures _ c.heading_size-heading.ensures) in
-    (answered_kept (accepted_text a.name.now a.count a.table.now) a.buffer.now measured_text c.if-fits.false).1
+    let t = c.as_chunks.ensures in
+    let held = held_text a.table.now _ a.count _ t.front t.front_len c.min.ensures in
+    let p = c.start-place in
+    let fits = c.in_ok-size.ensures ∙ measured a.name.now a.buffer.now a.count a.table.now held c.ended_size.ensures c.in_ok-heading.ensures in
+    let rest = named a.name.now a.buffer.now a.count a.table.now held fits p.result c.put.new.self p.ensures.value p.ensures.buffer_same c.put.ensures in
+    room_on _ _ rest
+
+pub write_rows-requires : goal.write_rows-requires
+write_rows-requires c =
+    let a = c.args in
+    let t = c.as_chunks.ensures in
+    let held = held_text a.table.now _ a.count _ t.front t.front_len c.min.ensures in
+    let p = c.start-place in
+    let fits = c.in_ok-size.ensures ∙ measured a.name.now a.buffer.now a.count a.table.now held c.ended_size.ensures c.in_ok-heading.ensures in
+    let rest = named a.name.now a.buffer.now a.count a.table.now held fits p.result c.put.new.self p.ensures.value p.ensures.buffer_same c.put.ensures in
+    room_last _ (written_on _ _ rest c.write_ended.new.place c.write_ended.ensures)
+
+pub returns-clause-value : goal.returns-clause-value
+returns-clause-value c =
+    let a = c.args in
+    let t = c.as_chunks.ensures in
+    let held = held_text a.table.now _ a.count _ t.front t.front_len c.min.ensures in
+    c.in_ok-size.ensures ∙ measured a.name.now a.buffer.now a.count a.table.now held c.ended_size.ensures c.in_ok-heading.ensures
+
+pub returns-clause-buffer_after : goal.returns-clause-buffer_after
+returns-clause-buffer_after c =
+    let a = c.args in
+    let t = c.as_chunks.ensures in
+    let held = held_text a.table.now _ a.count _ t.front t.front_len c.min.ensures in
+    let p = c.start-place in
+    let fits = c.in_ok-size.ensures ∙ measured a.name.now a.buffer.now a.count a.table.now held c.ended_size.ensures c.in_ok-heading.ensures in
+    let rest = named a.name.now a.buffer.now a.count a.table.now held fits p.result c.put.new.self p.ensures.value p.ensures.buffer_same c.put.ensures in
+    let lined = written_on _ _ rest c.write_ended.new.place c.write_ended.ensures in
+    let all = written_last _ lined c.write_rows.new.place c.write_rows.ensures in
+    search (rules, all)

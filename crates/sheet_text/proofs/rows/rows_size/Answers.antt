@@ -1,48 +1,29 @@
 -- `sheet_text::rows::rows_size` meets its contract.
 -- Assumes nothing.
-use Rattle.std.proofs.Common.{◌≡◌, ◌+◌, ℕ, length, ap, subst, arith}
-use Rattle.sheet_text.specs.Buffer.{Measures}
-use Rattle.sheet_text.specs.Text.{rows_text}
-use Rattle.sheet_text.proofs.Buffers.{measures_none, measures_more}
-use Rattle.sheet_text.proofs.RowTexts.{rows_all, rows_none, rows_size_turn}
+use Rattle.std.proofs.Common.{ap, arith, flat_map, length, sym, Some, ◌+◌, ◌<◌, ◌≡◌, ◌∙◌}
+use Rattle.sheet_text.specs.Text.{row_text}
+use Rattle.sheet_text.proofs.Buffers.{fits_of, over_of, sized_fits, sized_over}
+use Rattle.sheet_text.proofs.RowTexts.{rows_none, rows_size_turn}
 use Rattle.sheet_text.proofs.rows.rows_size.Goals as goal
 
-pub loop-i-init : goal.loop-i-init
-loop-i-init c =
+pub returns-in_err-size : goal.returns-in_err-size
+returns-in_err-size c =
     let a = c.args in
-    record {
-      passed = 0;
-      most = omega arith;
-      within = c.requires.count_le_room;
-      rest = omega (arith, ap length (rows_all a.count a.table.now));
-      so_far = measures_none a.done a.room;
-    }
+    let l = c.loop-row in
+    let turn = rows_size_turn a.rows.now l.row-index c.loop-row-test.true in
+    let over : a.room < a.done + length (flat_map row_text a.rows.now) = omega (arith, over_of _ _ c.in_err-size.ensures, c.row_size.ensures, turn, l.invariant.counted) in
+    c.from_residual.ensures ∙ sym (sized_over (a.done + length (flat_map row_text a.rows.now)) a.room over)
 
-pub more_bytes-measured-requires : goal.more_bytes-measured-requires
-more_bytes-measured-requires c = c.loop-i.invariant.within
+pub loop-row-preserved : goal.loop-row-preserved
+loop-row-preserved c =
+    let l = c.loop-row in
+    let turn = rows_size_turn c.args.rows.now l.row-index c.loop-row-test.true in
+    let told = fits_of _ _ c.in_ok-size.ensures in
+    record { fits = omega (arith, told.0, told.1); counted = omega (arith, told.1, c.row_size.ensures, turn, l.invariant.counted) }
 
-pub loop-i-preserved : goal.loop-i-preserved
-loop-i-preserved c =
+pub returns : goal.returns
+returns c =
     let a = c.args in
-    let l = c.loop-i in
-    let g = l.invariant in
-    let turn = rows_size_turn a.count a.table.now l.i c.loop-i-test.true in
-    record {
-      passed = g.passed + c.row_size.result;
-      most = omega (arith, c.loop-i-test.true);
-      within = c.more_bytes-measured.ensures.count_le_room;
-      rest = omega (arith, g.rest, turn, c.row_size.ensures);
-      so_far = measures_more g.passed c.row_size.result a.room g.so_far c.more_bytes-measured.ensures.measures;
-    }
-
-pub returns-clause-count_le_room_2 : goal.returns-clause-count_le_room_2
-returns-clause-count_le_room_2 c = c.loop-i.invariant.within
-
-pub returns-clause-measures : goal.returns-clause-measures
-returns-clause-measures c =
-    let a = c.args in
-    let l = c.loop-i in
-    let g = l.invariant in
-    let none = ap length (rows_none a.count a.table.now l.i c.loop-i-test.false) in
-    let all : g.passed ≡ length (rows_text a.count a.table.now) = omega (arith, g.rest, none) in
-    subst (λ (k : ℕ). Measures a.done k a.room l.measured) all g.so_far
+    let l = c.loop-row in
+    let all : l.size ≡ a.done + length (flat_map row_text a.rows.now) = omega (arith, l.invariant.counted, ap length (rows_none a.rows.now l.row-index c.loop-row-test.false)) in
+    ap Some all ∙ sym (sized_fits _ a.room (omega (arith, all, l.invariant.fits)))

@@ -1,16 +1,9 @@
--- The invariant of `sheet_text::rows::write_row`'s loop, and the number that falls.
+-- `sheet_text::rows::write_row`: the numbers so far are written.
 -- Assumes nothing.
-use Rattle.std.proofs.Common.{◌≡◌, ◌+◌, ◌-◌, ◌≤◌, length, drop}
-use Rattle.std.proofs.lemmas.List.Edits.{sets}
+use Rattle.std.proofs.Common.{drop}
+use Rattle.decimal.proofs.Rests.{Rest}
 use Rattle.sheet_text.specs.Text.{row_text}
 use Rattle.sheet_text.proofs.rows.write_row.Given as goal
 
 abbrev pub invariant-loop-i : goal.invariant-loop-i
-invariant-loop-i l =
-    (l.i ≤ length l.row)
-    × ((length l.buffer ≡ length l.initial.buffer)
-    × ((l.place + length (row_text (drop l.i l.row)) ≡ l.at + length (row_text l.row))
-    × (sets l.initial.buffer l.at (row_text l.row) ≡ sets l.buffer l.place (row_text (drop l.i l.row)))))
-
-abbrev pub decreases-loop-i : goal.decreases-loop-i
-decreases-loop-i l = length l.row - l.i
+invariant-loop-i l = Rest l.fn.place l.place (row_text l.row) (row_text (drop l.i l.row))

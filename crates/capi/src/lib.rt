@@ -1,4 +1,5 @@
-// The calls for firmware in C: the library's own, with the card as its eleven numbers and the reply as a number and counts.
+// The calls for firmware in C: the library's own, with the card as its eleven numbers and the reply as a number and counts, since C has no
+// Result.
 #![tactic(auto)]
 
 ghost use Rattle.std.specs.Prelude.{◌≡◌, ◌<◌, length};
@@ -13,9 +14,9 @@ ghost use Rattle.book.specs.Book.{reply_to_book, list_after};
 ghost use Rattle.book.specs.Writing.{reply_to_list, buffer_after};
 
 use book::{read_book, write_book};
-use card::least_length;
+use card::{Numbered, in_numbers, least_length};
 use card_list::card_of_numbers;
-use day::fill_day_of_numbers;
+use day::fill_day;
 use runoff::{check_card, fill_table};
 
 // The least length of a clothoid in metres, by the radius in metres; `looked` has how many listed radii were looked at, above 2000 all twenty.
@@ -36,8 +37,10 @@ pub extern "C" fn pippinterm_least_length(radius: u32, looked: &mut u32) -> u32
 pub extern "C" fn pippinterm_check_card(card: &[i32; 11]) -> u32
     ensures { result ≡ refusal (card_of card.now) }
 {
-    let c = card_of_numbers(card);
-    check_card(c)
+    match check_card(card_of_numbers(card)) {
+        Ok(()) => 0,
+        Err(refusal) => refusal.number(),
+    }
 }
 
 // Fills the lent table with the card's rows: 0, and `count` has how many; or the number of the reason, 1 to 6, 8 to 11, 34 or 35, `count` has 0, and the table is as it was.
@@ -48,11 +51,9 @@ pub extern "C" fn pippinterm_fill_table(card: &[i32; 11], table: &mut [i32], cou
     ensures table_after { table.new ≡ table_after (card_of card.now) table.old }
     ensures climbing_table { result ≡ 0 → ClimbingTable (card_of card.now) count.new table.new }
 {
-    let c = card_of_numbers(card);
-    let reply = fill_table(c, table);
-    let rows = reply.count;
+    let (number, rows) = in_numbers(fill_table(card_of_numbers(card), table));
     *count = rows;
-    reply.number
+    number
 }
 
 // Fills the lent table with the rows of a day's cards, eleven numbers each, and the reply list with each card's number and count: 0, and `count`
@@ -70,10 +71,9 @@ pub extern "C" fn pippinterm_fill_day(
     ensures replies_after { replies.new ≡ day_replies (cards_of cards.now) table.old replies.old }
     ensures climbing_day { result ≡ 0 → ClimbingDay (cards_of cards.now) table.new replies.new }
 {
-    let reply = fill_day_of_numbers(cards, table, replies);
-    let taken = reply.count;
+    let (number, taken) = in_numbers(fill_day(cards, table, replies));
     *count = taken;
-    reply.number
+    number
 }
 
 // Reads a book into the lent list, thirteen numbers a curve: 0, and `count` has how many curves; or the number of the refusal, 21 to 28, `count` has 0, and the list is as it was. `line` has the line at fault, and 0 where it is no line's.
@@ -89,12 +89,10 @@ pub extern "C" fn pippinterm_read_book(
     ensures line_after { line.new ≡ (reply_to_book text.now (length list.old)).line }
     ensures list_after { list.new ≡ list_after text.now list.old }
 {
-    let reply = read_book(text, list);
-    let curves = reply.count;
-    let at = reply.line;
+    let (number, curves, at) = book::in_numbers(read_book(text, list));
     *count = curves;
     *line = at;
-    reply.number
+    number
 }
 
 // Writes the book of a list of curves, thirteen numbers each, whose names stand in the bytes of `names`: 0, and `count` has how many bytes; or the
@@ -110,8 +108,7 @@ pub extern "C" fn pippinterm_write_book(
     ensures count_after { count.new ≡ (reply_to_list list.now names.now (length buffer.old)).count }
     ensures buffer_after { buffer.new ≡ buffer_after list.now names.now buffer.old }
 {
-    let reply = write_book(list, names, buffer);
-    let bytes = reply.count;
+    let (number, bytes) = in_numbers(write_book(list, names, buffer));
     *count = bytes;
-    reply.number
+    number
 }

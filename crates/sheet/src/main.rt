@@ -2,31 +2,32 @@
 // It decides nothing: the calls say what is read, reckoned and printed.
 #![tactic(auto)]
 
-ghost use Rattle.std.specs.Prelude.{true, ◌≡◌, ◌≤◌, ◌<◌, pos, length, replicate};
+ghost use Rattle.std.specs.Prelude.{IsSomeAnd, ◌≡◌, ◌≤◌, ◌<◌, pos, length, replicate};
 ghost use Rattle.book.specs.Book.{least_list, reply_to_book, list_after};
 ghost use Rattle.sheet_text.specs.Buffer.{written_of, buffer_after};
 ghost use Rattle.sheet_text.specs.Sheet.{enough_numbers, enough_bytes, part_of};
 
-use book::{BookReply, LEAST_LIST, MOST_BYTES};
-use sheet_text::{ENOUGH_BYTES, ENOUGH_NUMBERS, Written};
+use book::{BookRefusal, LEAST_LIST, MOST_BYTES};
+use card::Numbered;
+use sheet_text::{ENOUGH_BYTES, ENOUGH_NUMBERS};
 use std::io;
 
 // One byte more than a book may have, so that a longer input is seen to be longer.
 const TEXT_ROOM: usize = MOST_BYTES + 1;
 
 // Prints a text that fits the buffer, and stands in it from its start.
-fn print_written(rt: &impl Print, written: Written, buffer: &[u8]) -> io::Result<()>
-    requires { (written.fits ≡ true) × (written.count ≤ length buffer.now) }
+fn print_written(rt: &impl Print, written: Option<usize>, buffer: &[u8]) -> io::Result<()>
+    requires { IsSomeAnd written (λ size. size ≤ length buffer.now) }
 {
-    let count = written.count;
-    rt.write_all(&buffer[..count])
+    let size = written.unwrap();
+    rt.write_all(&buffer[..size])
 }
 
-// Prints the line of a refused book, and nothing for an accepted one.
-fn print_book(rt: &impl Print, reply: BookReply, buffer: &mut [u8]) -> io::Result<()>
+// Prints the line of a refused book.
+fn print_book(rt: &impl Print, refusal: BookRefusal, buffer: &mut [u8]) -> io::Result<()>
     requires { enough_bytes ≤ length buffer.old }
 {
-    let written = sheet_text::book_text(reply, buffer);
+    let written = sheet_text::book_text(refusal.fault.number(), refusal.line, buffer);
     print_written(rt, written, buffer)
 }
 
@@ -37,7 +38,7 @@ fn write_curve(
     curve: u32,
     table: &mut [i32],
     buffer: &mut [u8],
-) -> Written
+) -> Option<usize>
     ensures value { result ≡ written_of (part_of text.now list.now curve table.old) (length buffer.old) }
     ensures buffer_after { buffer.new ≡ buffer_after (part_of text.now list.now curve table.old) buffer.old }
 {
@@ -47,6 +48,7 @@ fn write_curve(
 }
 
 // Prints a curve that the book counts, from the list that its text was read into.
+// Text and list stay as they are and table and buffer do not, so they are lent apart: a struct of the four would have to promise it.
 fn print_curve(
     rt: &impl Print,
     text: &[u8],
@@ -68,13 +70,12 @@ fn print_sheet(rt: &impl Print, text: &[u8]) -> io::Result<()> {
     let mut list = [0i32; LEAST_LIST];
     let mut table = [0i32; ENOUGH_NUMBERS];
     let mut buffer = [0u8; ENOUGH_BYTES];
-    let reply = book::read_book(text, &mut list);
-    print_book(rt, reply, &mut buffer)?;
-    let curves = reply.count;
-    let mut curve: u32 = 0;
-    while curve < curves {
+    let curves = match book::read_book(text, &mut list) {
+        Ok(curves) => curves,
+        Err(refusal) => return print_book(rt, refusal, &mut buffer),
+    };
+    for curve in 0..curves {
         print_curve(rt, text, &list, curve, &mut table, &mut buffer)?;
-        curve += 1;
     }
     Ok(())
 }

@@ -3,7 +3,7 @@
 use Rattle.std.proofs.Common.{◌≤◌, List, ℤ, pos, length, replicate, sym, subst, arith}
 use Rattle.book.specs.Book.{least_list}
 use Rattle.sheet_text.specs.Sheet.{enough_bytes, part_of}
-use Rattle.sheet_text.proofs.Buffers.{count_in_lem, fits_said}
+use Rattle.sheet_text.proofs.Buffers.{fits_said}
 use Rattle.sheet_text.proofs.Sheets.{sheets}
 use Rattle.sheet.proofs.print_curve.Goals as goal
 
@@ -16,8 +16,4 @@ print_written-requires g c =
     let short : length (part_of text a.list.now a.curve a.table.now) ≤ enough_bytes =
     subst (λ (l : List ℤ). length (part_of text l a.curve a.table.now) ≤ enough_bytes) (sym c.requires.list_value)
     (sheets.fits text (replicate least_list (pos 0)) a.curve a.table.now c.requires.curve_bound asked.0) in
-    let size = length (part_of text a.list.now a.curve a.table.now) in
-    let room = length a.buffer.now in (
-      fits_said size room w.ensures.value (omega (arith, short, asked.1)),
-      omega (arith, count_in_lem size room w.ensures.value, w.auto.buffer),
-    )
+    fits_said (length (part_of text a.list.now a.curve a.table.now)) (length a.buffer.now) w.ensures.value w.auto.buffer (omega (arith, short, asked.1))

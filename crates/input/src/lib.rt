@@ -16,6 +16,7 @@ pub fn read_full<R: Read>(reader: &mut R, buffer: &mut [u8]) -> io::Result<usize
     ensures end { IfOk result (λ got. got < length buffer.new → IsAtEnd (R.remaining reader.new)) }
     ensures err { OnErr result (Lost (R.remaining reader.old) (R.remaining reader.new) buffer.new) }
 {
+    // No call of std does this: `read_exact` and `io::copy` promise nothing where a read fails, and `read_to_end` asks for a heap.
     let mut got: usize = 0;
     while got < buffer.len() {
         let count = reader.read(&mut buffer[got..])?;

@@ -1,168 +1,114 @@
 // The book that the text is writing: its bytes, and how a line writes them.
-ghost use Rattle.std.specs.Prelude.{◌≤◌, ◌<◌, length};
+ghost use Rattle.std.specs.Prelude.{◌≤◌, ◌<◌, length, IfSome};
 
-use crate::text::{byte_at, read_digits, read_number};
+use crate::text::{read_figure, read_size};
 
 // Room for 8192 bytes, the most that a book may have, and for some more: the call has to refuse a longer book.
-pub(crate) const BOOK_ROOM: usize = 8208;
+const BOOK_ROOM: usize = 8208;
 
+// The book has no room for more times than it has bytes.
 const MOST_TIMES: u32 = 8208;
 
-// A byte of the book, and the place in the line after what writes it.
-#[derive(Clone, Copy)]
-struct Written {
-    understood: bool,
-    byte: u8,
-    end: usize,
+// The bytes that are written of a book. The program has fixed memory and no heap, so they stand in an array, with their count beside it.
+#[derive(Drop)]
+pub(crate) struct Book {
+    bytes: [u8; BOOK_ROOM],
+    size: usize,
+    ghost within: { size ≤ 8208 },
 }
 
-// Which part of a line is appended, and how often.
-#[derive(Clone, Copy)]
-struct Piece {
-    understood: bool,
-    times: u32,
-    from: usize,
-}
-
-// How many bytes the book has after a line. A line that is not understood appends nothing.
-#[derive(Clone, Copy)]
-pub(crate) struct Appended {
-    pub(crate) understood: bool,
-    pub(crate) size: usize,
-}
-
-// The byte that a `\` at a place writes: three digits follow it, and give the byte's value.
-fn read_escape(line: &[u8], at: usize) -> Written
-    requires { at < length line.now }
-    ensures { (at < result.end) × (result.end ≤ length line.now) }
+// The byte that a text writes, by its first byte and the rest, and the text that follows: a `/` is byte 10, a `\` and three digits the byte
+// of that value, and any other byte is itself.
+fn read_byte(first: u8, rest: &[u8]) -> Option<(u8, &[u8])>
+    ensures { IfSome result (λ read. length read.1.now ≤ length rest.now) }
 {
-    let unread = Written {
-        understood: false,
-        byte: 0,
-        end: at + 1,
+    match first {
+        b'/' => Some((b'\n', rest)),
+        b'\\' => {
+            let (digits, rest) = rest.split_at_checked(3)?;
+            let byte = u8::try_from(read_size(digits)?).ok()?;
+            Some((byte, rest))
+        }
+        _ => Some((first, rest)),
+    }
+}
+
+// `m TIMES TEXT`, without its letter: how often the text is appended, and the text.
+fn read_times(line: &[u8]) -> Option<(u32, &[u8])> {
+    let (times, rest) = read_figure(line)?;
+    let times = times?.whole()?;
+    let [b' ', text @ ..] = rest else {
+        return None;
     };
-    if line.len() - at < 4 {
-        return unread;
-    }
-    let end = at + 4;
-    let digits = read_digits(&line[..end], at + 1);
-    let size = digits.size;
-    if digits.end != end || size > 255 {
-        return unread;
-    }
-    let byte = size as u8;
-    Written {
-        understood: true,
-        byte,
-        end,
-    }
-}
-
-// The byte that is written at a place: a `/` is byte 10, a `\` begins a byte's value, and any other byte is itself.
-fn read_byte(line: &[u8], at: usize) -> Written
-    requires { at < length line.now }
-    ensures { (at < result.end) × (result.end ≤ length line.now) }
-{
-    let byte = line[at];
-    if byte == b'\\' {
-        return read_escape(line, at);
-    }
-    Written {
-        understood: true,
-        byte: if byte == b'/' { b'\n' } else { byte },
-        end: at + 1,
-    }
-}
-
-fn nothing_appended(size: usize) -> Appended {
-    Appended {
-        understood: false,
-        size,
-    }
-}
-
-// Appends the bytes that a line writes from a place on. Where they do not all fit, none counts.
-fn append(line: &[u8], from: usize, book: &mut [u8; BOOK_ROOM], size: usize) -> Appended {
-    let mut at = from;
-    let mut longer = size;
-    while at < line.len() {
-        if longer >= BOOK_ROOM {
-            return nothing_appended(size);
-        }
-        let written = read_byte(line, at);
-        if !written.understood {
-            return nothing_appended(size);
-        }
-        book[longer] = written.byte;
-        longer += 1;
-        at = written.end;
-    }
-    Appended {
-        understood: true,
-        size: longer,
-    }
-}
-
-// Appends the same bytes several times. Where they do not all fit, none counts.
-fn append_times(line: &[u8], piece: Piece, book: &mut [u8; BOOK_ROOM], size: usize) -> Appended {
-    let from = piece.from;
-    let mut left = piece.times;
-    let mut longer = size;
-    while left > 0 {
-        let appended = append(line, from, book, longer);
-        if !appended.understood {
-            return nothing_appended(size);
-        }
-        longer = appended.size;
-        left -= 1;
-    }
-    Appended {
-        understood: true,
-        size: longer,
-    }
-}
-
-// `b TEXT` and `a TEXT`: the text is appended once. A line that ends with its letter has none.
-fn single_piece(line: &[u8]) -> Piece {
-    Piece {
-        understood: line.len() < 2 || byte_at(line, 1) == b' ',
-        times: 1,
-        from: 2,
-    }
-}
-
-// `m TIMES TEXT`: the text is appended that many times. The book has no room for more times than it has bytes.
-fn repeated_piece(line: &[u8]) -> Piece {
-    let unread = Piece {
-        understood: false,
-        times: 0,
-        from: 0,
-    };
-    if line.len() < 2 || byte_at(line, 1) != b' ' {
-        return unread;
-    }
-    let read = read_number(line, 2, false);
-    let end = read.end;
-    let times = read.figure.size;
-    if !read.understood || byte_at(line, end) != b' ' || times > MOST_TIMES {
-        return unread;
-    }
-    Piece {
-        understood: true,
-        times,
-        from: end + 1,
-    }
-}
-
-// Appends what a line writes to the book: an `m` line its text several times, another its text once.
-pub(crate) fn append_line(line: &[u8], book: &mut [u8; BOOK_ROOM], size: usize) -> Appended {
-    let piece = if byte_at(line, 0) == b'm' {
-        repeated_piece(line)
+    if times > MOST_TIMES {
+        None
     } else {
-        single_piece(line)
-    };
-    if !piece.understood {
-        return nothing_appended(size);
+        Some((times, text))
     }
-    append_times(line, piece, book, size)
+}
+
+impl Book {
+    pub(crate) fn new() -> Self {
+        Book {
+            bytes: [0; BOOK_ROOM],
+            size: 0,
+        }
+    }
+
+    pub(crate) fn text(&self) -> &[u8] {
+        &self.bytes[..self.size]
+    }
+
+    pub(crate) fn size(&self) -> u32 {
+        self.size as u32
+    }
+
+    fn push(&mut self, byte: u8) -> Option<()> {
+        *self.bytes.get_mut(self.size)? = byte;
+        self.size += 1;
+        Some(())
+    }
+
+    // No `for`: a byte is written by one byte of the text or by four.
+    fn append_once(&mut self, text: &[u8]) -> Option<()> {
+        let mut text = text;
+        while let Some((first, rest)) = text.split_first() {
+            let (byte, rest) = read_byte(*first, rest)?;
+            self.push(byte)?;
+            text = rest;
+        }
+        Some(())
+    }
+
+    fn append_times(&mut self, text: &[u8], times: u32) -> Option<()> {
+        for _ in 0..times {
+            self.append_once(text)?;
+        }
+        Some(())
+    }
+
+    // Appends the bytes that a text writes, several times. Where they do not all fit, none counts.
+    fn append(&mut self, text: &[u8], times: u32) -> Option<()> {
+        let size = self.size;
+        let appended = self.append_times(text, times);
+        if appended.is_none() {
+            self.size = size;
+        }
+        appended
+    }
+
+    // `b TEXT` and `a TEXT`, without their letter: the text is appended once. A line that ends with its letter has none.
+    pub(crate) fn append_text(&mut self, line: &[u8]) -> Option<()> {
+        match line {
+            [] => Some(()),
+            [b' ', text @ ..] => self.append(text, 1),
+            _ => None,
+        }
+    }
+
+    // `m TIMES TEXT`, without its letter.
+    pub(crate) fn append_repeated(&mut self, line: &[u8]) -> Option<()> {
+        let (times, text) = read_times(line)?;
+        self.append(text, times)
+    }
 }

@@ -4,53 +4,44 @@
 #![tactic(auto)]
 
 mod books;
-mod list;
+mod room;
 mod run;
-mod table;
 mod tally;
 mod text;
 
-use crate::books::BOOK_ROOM;
-use crate::list::LIST_ROOM;
-use crate::run::{Run, no_group, print_group, run_line};
-use crate::table::ROOM;
-use crate::text::line_end;
+use crate::room::Room;
+use crate::run::Run;
 use std::io;
 
 // Room for the text of figures, with one byte more than it may have.
 const TEXT_ROOM: usize = 163841;
 
+// The table has room for 301 rows of seven numbers, the most that a card can have, and for some more that must stay as they are.
+const TABLE_ROOM: usize = 2128;
+
+// The list has room for 64 curves of thirteen numbers, the most that a book can have, and for some more that must stay as they are.
+const LIST_ROOM: usize = 896;
+
 // Runs each line of the text. A last line without byte 10 is not understood.
-fn run_text(
-    rt: &impl Print,
-    text: &[u8],
-    numbers: &mut [i32; ROOM],
-    book: &mut [u8; BOOK_ROOM],
-    list: &mut [i32; LIST_ROOM],
-) -> io::Result<Run> {
-    let mut run = no_group();
-    let mut from: usize = 0;
-    while from < text.len() {
-        let end = line_end(text, from);
-        if end == text.len() {
-            return Ok(run.not_understood());
+fn run_text<'a>(rt: &impl Print, text: &'a [u8], run: &mut Run<'a>) -> io::Result<()> {
+    for line in text.split_inclusive(|byte| *byte == b'\n') {
+        match line.strip_suffix(b"\n") {
+            Some(line) => run.run_line(rt, line)?,
+            None => run.count_wrong_line(),
         }
-        run = run_line(rt, text, from, end, run, numbers, book, list)?;
-        from = end + 1;
     }
-    Ok(run)
+    Ok(())
 }
 
 fn main(rt: HostRuntime) -> io::Result<()> {
     let mut text = [0u8; TEXT_ROOM];
     let got = input::read_full(&mut rt.stdin(), &mut text)?;
-    let mut numbers = [0i32; ROOM];
-    let mut book = [0u8; BOOK_ROOM];
+    let mut table = [0i32; TABLE_ROOM];
     let mut list = [0i32; LIST_ROOM];
-    let run = run_text(&rt, &text[..got], &mut numbers, &mut book, &mut list)?;
-    print_group(&rt, &text, run)?;
-    let wrong_lines = run.wrong_lines;
-    println!(rt; "lines not understood: {wrong_lines}")?;
+    let mut run = Run::new(Room::new(&mut table), Room::new(&mut list));
+    run_text(&rt, &text[..got], &mut run)?;
+    run.print_group(&rt)?;
+    println!(rt; "lines not understood: {}", run.wrong_lines)?;
     if got == TEXT_ROOM {
         println!(rt; "the text is too long, and its end was not read")?;
     }

@@ -1,72 +1,53 @@
 // The counts of a group of figures.
-use std::io;
+use std::fmt;
 
-// What is counted of a group of figures.
-#[derive(Clone, Copy)]
+// What is counted of a group of figures. A text is too short to reach a count's limit.
+#[derive(Clone, Copy, Default)]
 pub(crate) struct Tally {
-    pub(crate) books: u32,
-    pub(crate) cards: u32,
-    pub(crate) rows: u32,
-    pub(crate) compared: u32,
-    pub(crate) failed: u32,
-}
-
-// One more. A text is too short to reach the limit, so no count stops there.
-pub(crate) fn one_more(count: u32) -> u32 {
-    if count < 4294967295 { count + 1 } else { count }
+    books: u32,
+    cards: u32,
+    rows: u32,
+    compared: u32,
+    failed: u32,
 }
 
 impl Tally {
-    pub(crate) fn new() -> Self {
-        Tally {
-            books: 0,
-            cards: 0,
-            rows: 0,
-            compared: 0,
-            failed: 0,
+    pub(crate) fn count_book(&mut self) {
+        self.books = self.books.saturating_add(1);
+    }
+
+    pub(crate) fn count_card(&mut self) {
+        self.cards = self.cards.saturating_add(1);
+    }
+
+    pub(crate) fn count_row(&mut self) {
+        self.rows = self.rows.saturating_add(1);
+    }
+
+    // Counts whether a figure held, where the paper prints it.
+    pub(crate) fn count_figure(&mut self, held: Option<bool>) {
+        let Some(held) = held else {
+            return;
+        };
+        self.compared = self.compared.saturating_add(1);
+        if !held {
+            self.failed = self.failed.saturating_add(1);
         }
-    }
-
-    pub(crate) fn with_book(mut self) -> Self {
-        self.books = one_more(self.books);
-        self
-    }
-
-    pub(crate) fn with_card(mut self) -> Self {
-        self.cards = one_more(self.cards);
-        self
-    }
-
-    pub(crate) fn with_row(mut self) -> Self {
-        self.rows = one_more(self.rows);
-        self
-    }
-
-    // One figure compared, where the paper prints it.
-    pub(crate) fn with_figure(mut self, printed: bool, held: bool) -> Self {
-        if printed {
-            self.compared = one_more(self.compared);
-            if !held {
-                self.failed = one_more(self.failed);
-            }
-        }
-        self
-    }
-
-    pub(crate) fn print(self, rt: &impl Print) -> io::Result<()> {
-        let books = self.books;
-        let cards = self.cards;
-        let rows = self.rows;
-        let compared = self.compared;
-        let failed = self.failed;
-        print_count(rt, books, " books, ")?;
-        print_count(rt, cards, " cards, ")?;
-        print_count(rt, rows, " rows, ")?;
-        print_count(rt, compared, " figures compared, ")?;
-        print_count(rt, failed, " failed\n")
     }
 }
 
-fn print_count(rt: &impl Print, count: u32, what: &str) -> io::Result<()> {
-    print!(rt; "{count}{what}")
+impl fmt::Display for Tally {
+    fn fmt<W: fmt::Write>(&self, f: &mut fmt::Formatter<W>) -> fmt::Result {
+        let Tally {
+            books,
+            cards,
+            rows,
+            compared,
+            failed,
+        } = self;
+        write!(
+            f,
+            "{books} books, {cards} cards, {rows} rows, {compared} figures compared, {failed} failed"
+        )
+    }
 }

@@ -35,13 +35,13 @@ extern "C" {
 
 /* The version of the library that this header is delivered with, as three numbers
    and as text with points between; docs/CHANGES.md says what each version brought. */
-# define PIPPINTERM_VERSION_MAJOR 0
-# define PIPPINTERM_VERSION_MINOR 6
-# define PIPPINTERM_VERSION_PATCH 3
-# define PIPPINTERM_VERSION_JOINED_(major, minor, patch) #major "." #minor "." #patch
-# define PIPPINTERM_VERSION_JOINED(major, minor, patch) \
+#define PIPPINTERM_VERSION_MAJOR 0
+#define PIPPINTERM_VERSION_MINOR 6
+#define PIPPINTERM_VERSION_PATCH 3
+#define PIPPINTERM_VERSION_JOINED_(major, minor, patch) #major "." #minor "." #patch
+#define PIPPINTERM_VERSION_JOINED(major, minor, patch) \
     PIPPINTERM_VERSION_JOINED_(major, minor, patch)
-# define PIPPINTERM_VERSION \
+#define PIPPINTERM_VERSION \
     PIPPINTERM_VERSION_JOINED(PIPPINTERM_VERSION_MAJOR, PIPPINTERM_VERSION_MINOR, \
                               PIPPINTERM_VERSION_PATCH)
 

@@ -1,8 +1,11 @@
-//! The constants and tables of the header beside the figures of the paper.
+//! The constants and tables of the header beside the figures of the paper, and its version beside the changes.
 
 use paper::card::{profile, LEAST_LENGTHS};
 
 pub const HEADER: &str = include_str!("../../../include/pippinterm.h");
+
+/// The changelog, which has a section for each request of document 02 that is in, and says what the version's numbers count.
+const CHANGES: &str = include_str!("../../../docs/CHANGES.md");
 
 /// "What a turned-away card or book says", by the trade's word, which the header puts behind `REFUSED`.
 /// The constant for 7 stays, though "Number 7 never occurs again" (document 02, Slip 1).
@@ -85,24 +88,88 @@ const OTHERS: [(&str, u32); 39] = [
     ("enough book", GREATEST_BOOK),
 ];
 
-/// The word and the number of a line that has a constant.
-fn constant(line: &str) -> Option<(String, u32)> {
-    let mut words = line.strip_prefix("#define PIPPINTERM_")?.split_whitespace();
-    let word = words.next()?.to_lowercase().replace('_', " ");
-    Some((word, words.next()?.parse().ok()?))
+/// The version's own macros, which are no constants of the papers.
+const VERSION: [&str; 6] = [
+    "PIPPINTERM_VERSION_MAJOR",
+    "PIPPINTERM_VERSION_MINOR",
+    "PIPPINTERM_VERSION_PATCH",
+    "PIPPINTERM_VERSION_JOINED_",
+    "PIPPINTERM_VERSION_JOINED",
+    "PIPPINTERM_VERSION",
+];
+
+/// The macro of a line, its name and the rest without a comment: whatever stands around the word `define`, the line has one.
+fn definition(line: &str) -> Option<(String, String)> {
+    let rest = line.split_once("define")?.1.trim_start();
+    let end = rest.find(|c: char| c != '_' && !c.is_ascii_alphanumeric());
+    let (name, rest) = rest.split_at(end.unwrap_or(rest.len()));
+    let (before, comment) = rest.split_once("/*").unwrap_or((rest, ""));
+    let after = comment.split_once("*/").map_or("", |(_, after)| after);
+    let value = [before, after].concat();
+    Some((name.to_string(), value.trim().to_string()))
 }
 
+/// The macros of a header but for the version's.
+fn constants(header: &str) -> Vec<(String, String)> {
+    let macros = header.lines().filter_map(definition);
+    macros
+        .filter(|(name, _)| !VERSION.contains(&name.as_str()))
+        .collect()
+}
+
+/// They are the refusals and the others, each with a plain number, and the guard, which has none.
 #[test]
 fn constants_are_the_papers() {
-    let mut there: Vec<_> = HEADER.lines().filter_map(constant).collect();
+    let name = |word: &str| format!("PIPPINTERM_{}", word.to_uppercase().replace(' ', "_"));
     let refused = REFUSALS
         .iter()
-        .map(|&(word, n)| (format!("refused {word}"), n));
-    let others = OTHERS.iter().map(|&(word, n)| (word.to_string(), n));
+        .map(|&(word, n)| (name(&format!("refused {word}")), n.to_string()));
+    let others = OTHERS.iter().map(|&(word, n)| (name(word), n.to_string()));
     let mut due: Vec<_> = refused.chain(others).collect();
+    due.push((name("h"), String::new()));
+    let mut there = constants(HEADER);
     there.sort();
     due.sort();
     assert_eq!(there, due);
+}
+
+/// No macro is passed over, however it is spelled, but for the six of the version.
+#[test]
+fn every_macro_is_found() {
+    let others = ["PIPPINTERM_X", "X", "PIPPINTERM_VERSION_X"];
+    for spelled in ["#define", "# define", "#\tdefine", " #define", "\t# define"] {
+        for name in others {
+            let line = format!("{spelled} {name}\t5 /* five */");
+            assert_eq!(constants(&line), [(name.to_string(), "5".to_string())]);
+        }
+        let version = VERSION.map(|name| format!("{spelled} {name} 5\n")).concat();
+        assert!(constants(&version).is_empty());
+    }
+}
+
+/// One of the three numbers of the version, as it stands.
+fn number_of_version(part: &str) -> String {
+    let name = format!("PIPPINTERM_VERSION_{part}");
+    let macros = HEADER.lines().filter_map(definition);
+    let values: Vec<_> = macros.filter(|(there, _)| *there == name).collect();
+    assert_eq!(values.len(), 1, "{name}");
+    values[0].1.clone()
+}
+
+/// The rule in the changes: 0 and the count of requests that are in, until all thirteen are, which is 1.0; and the last section's is the header's.
+#[test]
+fn version_is_that_of_the_changes() {
+    let version = ["MAJOR", "MINOR", "PATCH"].map(number_of_version).join(".");
+    let requests = CHANGES.matches("\n## Slip ").count();
+    let due = match requests {
+        0..13 => format!("0.{requests}."),
+        _ => "1.0.".to_string(),
+    };
+    assert!(version.starts_with(&due), "{version}, not {due}");
+    let (_, last) = CHANGES.rsplit_once("\n## ").expect("a section");
+    let lines = last.lines();
+    let versions: Vec<_> = lines.filter(|line| line.starts_with("Version ")).collect();
+    assert_eq!(versions, [format!("Version {version}.")]);
 }
 
 /// The words of the indented lines of the header that have numbers only, or pairs of numbers.

@@ -66,7 +66,7 @@ int main(int argc, char **argv)
         }
     }
     printf("%lu radii, %lu figures compared, %lu failed\n", radii, figures, failed);
-    if (argc != 2 || radii != strtoul(argv[1], NULL, 10)) {
+    if (argc != 2 || radii == 0 || radii != strtoul(argv[1], NULL, 10)) {
         return 2;
     }
     return failed != 0;

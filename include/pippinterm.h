@@ -6,10 +6,11 @@
  * for x86-64 and the System V calling convention, as gcc has it there, and for
  * no other target: the SSE registers are used, and so are the 128 bytes below
  * the stack pointer (the red zone), which an interrupt handler on the same
- * stack must leave alone. No call reckons with floats. It needs memcpy and
- * memset, which every C compiler expects, less than 5 KB of stack besides what
- * these two take, and no start-up. It keeps nothing between two calls, so that
- * calls from several threads meet only in what they are lent.
+ * stack must leave alone; the stack pointer is a multiple of 16 wherever one of
+ * these functions is called, else the processor may fault. No call reckons with
+ * floats. It needs memcpy and memset, which every C compiler expects, no start-up,
+ * and less than 5 KB of stack besides what these two take. It keeps nothing between
+ * two calls, so that calls from several threads meet only in what they are lent.
  *
  * No call asks for a test beforehand: every card, every radius, every text,
  * every list and every length has its reply. Only the C side can see to this
@@ -34,7 +35,7 @@ extern "C" {
 #endif
 
 /* The version of the library that this header is delivered with, as three numbers
-   and as text with points between; docs/CHANGES.md says what each version brought. */
+   and as text with points between; CHANGES.md says what each version brought. */
 #define PIPPINTERM_VERSION_MAJOR 0
 #define PIPPINTERM_VERSION_MINOR 6
 #define PIPPINTERM_VERSION_PATCH 3

@@ -8,6 +8,8 @@ MARKS = {b"\xef\xbb\xbf": "UTF-8", b"\xff\xfe": "UTF-16", b"\xfe\xff": "UTF-16"}
 SHOWN = {9: "<TAB>", 10: "<LF>", 13: "<CR>"}
 LINES = re.compile(rb"[^\n]*\n|[^\n]+")
 TOKEN = re.compile(rb"[^ \t\r\n]+")
+# What spreadsheets put between their cells.
+SEPARATORS = {b"\t": "tabs", b";": "semicolons", b",": "commas"}
 UNIX_ENDS = "save the book with Unix line ends (LF)"
 SAVE_PLAIN = "save the book as plain text, ANSI or UTF-8 without a byte-order mark"
 DASHES, BLANKS = "\u2010\u2011\u2012\u2013\u2014\u2015\u2212\u00ad", "\u00a0\u2007\u2009\u202f\u3000"
@@ -37,6 +39,12 @@ class Line:
         """The line without its end, and without the carriage return before it."""
         return re.sub(rb"\r?\n\Z", b"", self.bytes)
 
+    def cells_end(self):
+        """Where the last word ends, if a spreadsheet has put separators of empty cells behind it; else where the content ends."""
+        content = self.content()
+        words = content.rstrip(b" \t;,")
+        return len(words) if content[len(words):].strip(b" ") else len(content)
+
     def mark(self):
         """The byte-order mark that the line begins with, or nothing."""
         at_start = self.number == 1
@@ -48,6 +56,7 @@ class Line:
         for place, sign, size in signs_in(self.bytes):
             if sign in BLANKS:
                 plain[place:place + size] = b" " * size
+        plain[self.cells_end():] = b""
         return [(found.start(), found[0]) for found in TOKEN.finditer(bytes(plain), start)]
 
     def name(self):
@@ -100,7 +109,7 @@ def sign_words(sign, in_body):
         return f"the Cyrillic letter that looks like {LOOK_ALIKE[sign]}", f"type the Latin {LOOK_ALIKE[sign]}"
     if "\u0400" <= sign <= "\u04ff":
         return "a Cyrillic letter", "type the number anew, in digits" if in_body else "names have Latin capitals and digits"
-    return "a letter or sign that stands in no book, and may be invisible", "type the word anew, in plain letters or digits"
+    return "a letter or sign that stands in no book, and may be invisible", "take it out, or type the word anew, in plain letters or digits"
 
 
 def byte_faults(line, in_body):
@@ -114,7 +123,7 @@ def byte_faults(line, in_body):
     if b"\0" in content:
         yield Found(content.index(b"\0"), "a byte 0, as UTF-16 text has them", SAVE_PLAIN)
         return
-    for place, byte in enumerate(content):
+    for place, byte in enumerate(content[:line.cells_end()]):
         if byte == 9:
             found.setdefault(("a tab, <TAB>", "put one blank in its place"), place)
         elif byte == 13:
@@ -122,13 +131,19 @@ def byte_faults(line, in_body):
         elif byte < 32 or byte == 127:
             found.setdefault((f"a control sign, byte {byte}", "take it out"), place)
     for place, sign, _ in signs_in(content[len(mark):]):
-        found.setdefault(sign_words(sign, in_body), len(mark) + place)
+        # What follows the first blank of a contents line is a number, as all is in a body.
+        in_number = in_body or b" " in content[:len(mark) + place]
+        found.setdefault(sign_words(sign, in_number), len(mark) + place)
     yield from (Found(place, *words) for words, place in found.items())
 
 
 def blank_faults(line):
-    """Blanks before the first word, behind the last, and two in a row."""
-    content = line.content()
+    """Blanks before the first word, behind the last, and two in a row; and the separators of empty cells."""
+    end = line.cells_end()
+    content, cells = line.content()[:end], line.content()[end:].strip(b" ")
+    if cells and line.tokens():
+        yield Found(end, f"{SEPARATORS[cells[:1]]} behind the last word, as spreadsheets put them for empty cells",
+                    "take out all from here to the end of the line")
     for pattern, words, cure in ((rb"^ +", "a blank before the first word", "take it out"),
                                  (rb"(?<=[^ ] ) +(?=[^ ])", "more than one blank in a row", "leave one"),
                                  (rb"(?<=[^ ]) +$", "a blank behind the last word", "take it out")):

@@ -15,6 +15,7 @@ NUMBER = re.compile(rb"0|[1-9][0-9]{0,6}")
 SIGNED = re.compile(rb"0|-?[1-9][0-9]{0,6}")
 NAME = re.compile(rb"[A-Z0-9]{1,8}")
 COUNT_CURE = "write the count of curves"
+TAKE_LINE_OUT = "take the line out, or write what is due: a book has no title and no remarks"
 # The numbers of a body: what they are called, what they are whole numbers of, and how great those in mm may be.
 FIELDS = (("the profile", "", 0), ("the terrain", "", 0), ("R", "metres", 0), ("L", "mm", 300000), ("v", "per mille", 0),
           ("W", "mm", 3500), ("the step", "mm", 20000), ("the unit", "1 (mm) or 10 (cm)", 0), ("the height", "mm", 9000000),
@@ -107,6 +108,11 @@ def name_faults(place, token):
 
 # ---- lines of each form ----
 
+def is_remark(tokens):
+    """Two words or more, the first no name, and no digit."""
+    return len(tokens) > 1 and not NAME.fullmatch(tokens[0][1]) and not any(re.search(rb"[0-9]", token) for _, token in tokens)
+
+
 def is_contents(tokens):
     """A name and a number, as a contents line has them."""
     return len(tokens) == 2 and NAME.fullmatch(tokens[0][1]) and NUMBER.fullmatch(tokens[1][1])
@@ -147,7 +153,7 @@ def count_faults(line):
         yield Found(place, "more than one word" if tokens else "the line is empty", f"{COUNT_CURE}, and nothing else")
     elif not NUMBER.fullmatch(tokens[0][1]):
         if is_plain(tokens[0][1]):
-            yield Found(tokens[0][0], f"{cut(tokens[0][1])} is no count", f"{COUNT_CURE}, with no 0 or sign before it")
+            yield Found(tokens[0][0], f"{cut(tokens[0][1])} is no count", f"{COUNT_CURE} alone, in digits, with no 0 before it")
     elif not 1 <= int(tokens[0][1]) <= MOST_CURVES:
         more = "make two books of a longer one" if int(tokens[0][1]) else COUNT_CURE
         yield Found(tokens[0][0], f"{int(tokens[0][1])} curves", f"a book has 1 to {MOST_CURVES}: {more}")
@@ -162,6 +168,8 @@ def contents_faults(line):
                     f"is the count in line 1, {line.count}, that of the curves? Each has a contents line, and all stand before the bodies")
     elif not words:
         yield Found(0, "the line is empty", "take it out, or write what is due")
+    elif is_remark(tokens):
+        yield Found(tokens[0][0], "words, and no number", TAKE_LINE_OUT)
     elif len(words) == 1:
         yield from lone_word_faults(line, *tokens[0], due)
     elif words[0] == due and NAME.fullmatch(words[1]):
@@ -225,6 +233,10 @@ def body_faults(line):
                     f"is the count in line 1, {line.count}, that of the curves?")
     elif not tokens:
         yield Found(0, "the line is empty", "take it out, or write what is due")
+    elif is_remark(tokens):
+        yield Found(tokens[0][0], "words, and no number", TAKE_LINE_OUT)
+    elif re.sub(rb"[^A-Z0-9]", b"", tokens[0][1].upper()) == line.name().encode("ascii") and len(tokens) in (9, 11):
+        yield Found(tokens[0][0], "the name of the curve", "take it out: it stands in the contents line only")
     else:
         separators = list(separator_faults(line))
         remark = next((i for i, (_, token) in enumerate(tokens) if is_plain(token) and not re.search(rb"[0-9]", token) and token != b"-"), None)
@@ -300,7 +312,7 @@ def faults(number, line):
     title = title_fault(line) if number == 22 else None
     if title:
         return [title]
-    found = list(byte_faults(line, number == 26))
+    found = list(byte_faults(line, number in (22, 26)))
     lines_lost = MARKS.get(line.mark()) == "UTF-16" or re.search(rb"\0|\r(?!\n)", line.bytes)
     if not lines_lost:
         found += [*blank_faults(line), *FORMS[number](line), *end_faults(line)]
@@ -316,13 +328,15 @@ def repair(number, line):
         steps.append("iconv -f UTF-16 -t UTF-8")
     elif mark:
         steps.append(f"tail -c +{len(mark) + 1}")
-    elif b"\0" in line.bytes[:2]:
+    elif line.number == 1 and b"\0" in line.bytes[:2]:
         steps.append(f"iconv -f UTF-16{'BE' if line.bytes[:1] == bytes(1) else 'LE'} -t UTF-8")
     ends, lone = re.search(rb"\r\0?\n", line.data), re.search(rb"\r(?!\0?\n)", line.data)
     if ends and not lone and b"\r" in line.bytes:
         steps.append("tr -d '\\r'")
     elif lone and b"\n" not in line.data:
         steps.append("tr '\\r' '\\n'")
+    if re.search(rb"\t|[0-9A-Z];+[0-9\r\n-]", line.bytes):
+        steps += ["tr -s ';\\t' ' '", "sed 's/^ //; s/ $//'"]
     if not steps:
         return ""
     old = Path(line.path)

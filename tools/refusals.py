@@ -124,7 +124,7 @@ def unit_words(card):
 
 
 def height_words(card):
-    """34: outside -100000 to 9000000, or not a whole number of units."""
+    """34: outside -100000 to 9000000, or not a whole number of units. A height of some hundreds was typed in metres."""
     height, unit = card[8], card[7]
     if height > MOST_HEIGHT:
         return f"height {height} mm is above {MOST_HEIGHT} mm, the greatest"
@@ -133,7 +133,10 @@ def height_words(card):
     down = height // unit * unit
     if abs(height) <= MOST_GRADE < abs(card[9]):
         return f"height {height} mm is no whole number of units of {unit} mm; are height and grade exchanged? The height comes first"
-    return f"height {height} mm is no whole number of units: {down} and {down + unit} are, with a unit of {unit} mm"
+    words = f"height {height} mm is no whole number of units: {down} and {down + unit} are, with a unit of {unit} mm"
+    if LEAST_HEIGHT <= 1000 * height <= MOST_HEIGHT:
+        words += f"; if {height} metres are meant, write {1000 * height}"
+    return words
 
 
 def grade_words(card):

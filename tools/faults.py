@@ -178,7 +178,7 @@ def contents_faults(line):
         yield Found(tokens[1][0] - 1, "a blank inside the name", f"write {cut(b''.join(words[:-1]))} {cut(due)}")
     else:
         yield from name_faults(*tokens[0])
-        yield from number_faults(*tokens[1])
+        yield from (Found(fault.place, fault.words, f"write {cut(due)}") for fault in number_faults(*tokens[1]))
         if len(words) > 2:
             yield Found(tokens[2][0], "more than a name and a number", "take out all from here to the end of the line")
 
@@ -201,21 +201,39 @@ def lone_word_faults(line, place, token, due):
 def wrong_line_faults(line):
     """A contents line that names another line than the one due; perhaps the count is wrong, or the order of the lines."""
     (_, name), (place, token) = line.tokens()
-    named, due = int(token), line.count + line.number
-    fitting = named - line.number
-    contents = [Line(line.data, number, line.path, line.count).tokens() for number in range(2, line.count + 2)]
-    others = [int(tokens[1][1]) for tokens in contents if is_contents(tokens)]
     doubled = line.bytes in line.lines[1:line.number - 1]
-    cure = f"the body of {name.decode('ascii')} is due in line {due}: if it stands there, write {due}"
-    if doubled:
-        cure = f"is this line there twice? Take it out, if so; else give the curve another name, and write {due}"
-    elif 1 <= fitting <= MOST_CURVES and len(line.lines) == 2 * fitting + 1:
-        cure = f"is the count in line 1 {fitting}, and not {line.count}? If not, and the body stands in line {due}, write {due}"
-    elif due in others:
-        cure = f"another contents line names line {due}: put the contents lines into the order of the bodies, and leave their numbers"
-    yield Found(place, f"line {named} is named for the body of {name.decode('ascii')}", cure)
+    yield Found(place, f"line {int(token)} is named for the body of {name.decode('ascii')}",
+                doubled_cure(line) if doubled else count_cure(line, int(token)) or numbers_cure(line, name.decode("ascii")))
     if earlier_line(line) and not doubled:
         yield from twin_faults(line)
+
+
+def doubled_cure(line):
+    """What to do where an earlier contents line is the same."""
+    return f"is this line there twice? Take it out, if so; else give the curve another name, and write {line.count + line.number}"
+
+
+def count_cure(line, named):
+    """What to do where the number of lines is that of another count; nothing where it is not."""
+    due, fitting, (curves, odd) = line.count + line.number, named - line.number, divmod(len(line.lines) - 1, 2)
+    if odd or curves == line.count or not 1 <= curves <= MOST_CURVES:
+        return ""
+    if curves == fitting:
+        return f"is the count in line 1 {fitting}, and not {line.count}? If not, and the body stands in line {due}, write {due}"
+    return (f"the book has the {len(line.lines)} lines that a count of {curves} asks for: if no curve is missing, "
+            f"write {curves} in line 1, and number the contents lines anew, from {curves + 2} in line 2 on")
+
+
+def numbers_cure(line, name):
+    """What to do where the count may be right: other numbers, or another order of the contents lines."""
+    due, contents = line.count + line.number, range(2, line.count + 2)
+    found = [Line(line.data, number, line.path, line.count).tokens() for number in contents]
+    named = [int(tokens[1][1]) if is_contents(tokens) else 0 for tokens in found]
+    if sorted(named) == [line.count + number for number in contents]:
+        return f"another contents line names line {due}: put the contents lines into the order of the bodies, and leave their numbers"
+    if line.number <= line.count and named[line.number - 1] != due + 1:
+        return f"number the contents lines anew, from {due} in line {line.number} on"
+    return f"the body of {name} is due in line {due}: if it stands there, write {due}"
 
 
 def twin_faults(line):
@@ -247,10 +265,12 @@ def body_faults(line):
 
 def separator_faults(line):
     """Semicolons and commas between the numbers."""
-    semicolon = re.search(rb"[0-9];(?=[0-9-])", line.bytes)
+    semicolon = re.search(rb"[0-9];(?=[ 0-9-])", line.content()[:line.cells_end()])
     comma = re.search(rb"[0-9],(?= )|(?<=[0-9]),(?=[0-9]+,[0-9]+,)", line.bytes)
     if semicolon:
-        yield Found(semicolon.start() + 1, "a semicolon between two numbers", "put one blank in place of each")
+        spaced = line.bytes[semicolon.end():semicolon.end() + 1] == b" "
+        yield Found(semicolon.start() + 1, "a semicolon between two numbers",
+                    "take out each semicolon before a blank" if spaced else "put one blank in place of each")
     elif comma:
         place = line.bytes.index(b",", comma.start())
         spaced = line.bytes[place + 1:place + 2] == b" "
@@ -335,7 +355,7 @@ def repair(number, line):
         steps.append("tr -d '\\r'")
     elif lone and b"\n" not in line.data:
         steps.append("tr '\\r' '\\n'")
-    if re.search(rb"\t|[0-9A-Z];+[0-9\r\n-]", line.bytes):
+    if re.search(rb"\t|[0-9A-Z];+[ 0-9\r\n-]", line.bytes):
         steps += ["tr -s ';\\t' ' '", "sed 's/^ //; s/ $//'"]
     if not steps:
         return ""

@@ -98,7 +98,7 @@ def read_cards(data, path):
 
 
 def check_fit(rows, card, name):
-    """The rows must stand where the card puts them: 0, step, ... and L."""
+    """The rows must stand where the card puts them, and the last be the card's: its unit does not stand in the sheet."""
     length, step = card[3], card[6]
     if reckon.refusal(card):
         raise Fault(f"{name}: a sheet refuses the book's card, but this one has rows")
@@ -107,6 +107,8 @@ def check_fit(rows, card, name):
         raise Fault(f"{name}: the sheet has {len(rows)} rows, the book's card asks for {due}")
     if any(row[0] != min(i * step, length) for i, row in enumerate(rows)):
         raise Fault(f"{name}: the sheet's stations are not those of the book's card")
+    if rows[-1] != reckon.row(card, length):
+        raise Fault(f"{name}: the sheet's last row is not that of the book's card; print the sheet of this book anew")
 
 
 def check_refusal(refused, card, name):

@@ -22,6 +22,8 @@ FIELDS = (("the profile", "", 0), ("the terrain", "", 0), ("R", "metres", 0), ("
           ("the grade", "per mille", 0))
 WHOLE = "lengths are in whole mm (1.2 m is 1200), R in whole metres, slopes in whole per mille; do not just take the point out"
 BODY_COUNT = "a body has eight numbers, or ten with height and grade"
+# Separators with nothing between them, and something behind: without them the numbers would be of other cells.
+EMPTY_CELL = re.compile(rb"[\t;] *[\t;][\t; ]*[^\t; \r\n]")
 # How files of word processors begin.
 DOCUMENTS = (b"PK\x03\x04", b"{\\rtf", b"\xd0\xcf\x11\xe0", b"%PDF")
 
@@ -355,7 +357,7 @@ def repair(number, line):
         steps.append("tr -d '\\r'")
     elif lone and b"\n" not in line.data:
         steps.append("tr '\\r' '\\n'")
-    if re.search(rb"\t|[0-9A-Z];+[ 0-9\r\n-]", line.bytes):
+    if re.search(rb"\t|[0-9A-Z];+[ 0-9\r\n-]", line.bytes) and not EMPTY_CELL.search(line.data.replace(b"\0", b"")):
         steps += ["tr -s ';\\t' ' '", "sed 's/^ //; s/ $//'"]
     if not steps:
         return ""

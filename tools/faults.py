@@ -115,6 +115,12 @@ def is_remark(tokens):
     return len(tokens) > 1 and not NAME.fullmatch(tokens[0][1]) and not any(re.search(rb"[0-9]", token) for _, token in tokens)
 
 
+def is_own_name(line, token):
+    """The name of the curve whose body the line is, perhaps with other signs; digits alone may be the profile."""
+    name = re.sub(rb"[^A-Z0-9]", b"", token.upper())
+    return name == line.name().encode("ascii") and not name.isdigit()
+
+
 def is_contents(tokens):
     """A name and a number, as a contents line has them."""
     return len(tokens) == 2 and NAME.fullmatch(tokens[0][1]) and NUMBER.fullmatch(tokens[1][1])
@@ -255,7 +261,7 @@ def body_faults(line):
         yield Found(0, "the line is empty", "take it out, or write what is due")
     elif is_remark(tokens):
         yield Found(tokens[0][0], "words, and no number", TAKE_LINE_OUT)
-    elif re.sub(rb"[^A-Z0-9]", b"", tokens[0][1].upper()) == line.name().encode("ascii") and len(tokens) in (9, 11):
+    elif is_own_name(line, tokens[0][1]) and len(tokens) in (9, 11):
         yield Found(tokens[0][0], "the name of the curve", "take it out: it stands in the contents line only")
     else:
         separators = list(separator_faults(line))

@@ -124,7 +124,7 @@ def unit_words(card):
 
 
 def height_words(card):
-    """34: outside -100000 to 9000000, or not a whole number of units. A height of some hundreds was typed in metres."""
+    """34: outside -100000 to 9000000, or not a whole number of units. A small one may be in metres."""
     height, unit = card[8], card[7]
     if height > MOST_HEIGHT:
         return f"height {height} mm is above {MOST_HEIGHT} mm, the greatest"

@@ -3,7 +3,7 @@
 -- Assumes nothing.
 use Rattle.std.specs.Prelude.{ℕ, Result, Ok, Err}
 use Rattle.card.specs.declared.reasons.Refusal.{Refusal}
-use Rattle.card.specs.declared.reasons.Refusal.TheVariants.{Profile, Terrain, Radius, Clothoid, FullSlope, Widening, AddedSlope, Step, Unit, ShortTable, Height, Grade}
+use Rattle.card.specs.declared.reasons.Refusal.TheVariants.{Profile, Terrain, Radius, Clothoid, FullSlope, Widening, AddedSlope, Step, Unit, ShortTable, Height, Grade, Method, FirstStage, WideningPlace}
 use Rattle.card.specs.Table.{Reply}
 
 -- the number of each reason to refuse a card
@@ -20,6 +20,9 @@ refusal_number Unit = 10
 refusal_number ShortTable = 11
 refusal_number Height = 34
 refusal_number Grade = 35
+refusal_number Method = 36
+refusal_number FirstStage = 37
+refusal_number WideningPlace = 38
 
 -- the number of an answer: 0 where nothing is refused, else that of the refusal
 abbrev pub number_told : {A E : Type 0} → (E → ℕ) → Result A E → ℕ

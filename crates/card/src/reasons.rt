@@ -10,7 +10,7 @@ pub trait Numbered {
         ensures { result ≡ numbered self };
 }
 
-// The reasons to refuse a card, by the trade's word for each. 7, the narrow shoulder, is no longer given.
+// The reasons to refuse a card, by the trade's word for each. 7, the narrow shoulder, is no longer given; 36 to 38 are the handbook's method's own.
 #[derive(Clone, Copy, Debug, PartialEq, Eq)]
 pub enum Refusal {
     Profile = 1,
@@ -25,6 +25,9 @@ pub enum Refusal {
     ShortTable = 11,
     Height = 34,
     Grade = 35,
+    Method = 36,
+    FirstStage = 37,
+    WideningPlace = 38,
 }
 
 impl Numbered for Refusal {

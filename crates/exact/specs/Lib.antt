@@ -1,4 +1,5 @@
 pub mod Exact
 pub mod Parts
 pub mod Rounding
+pub mod Strict
 pub mod Tabled

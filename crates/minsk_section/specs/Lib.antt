@@ -1,0 +1,5 @@
+pub mod Widths
+pub mod Lines
+pub mod Turning
+pub mod Datum
+pub mod Climbing

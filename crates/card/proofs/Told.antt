@@ -2,7 +2,7 @@
 -- Assumes nothing.
 use Rattle.std.proofs.Common.{◌≡◌, arith}
 use Rattle.card.specs.declared.reasons.Refusal.{Refusal}
-use Rattle.card.specs.declared.reasons.Refusal.TheVariants.{Profile, Terrain, Radius, Clothoid, FullSlope, Widening, AddedSlope, Step, Unit, ShortTable, Height, Grade}
+use Rattle.card.specs.declared.reasons.Refusal.TheVariants.{Profile, Terrain, Radius, Clothoid, FullSlope, Widening, AddedSlope, Step, Unit, ShortTable, Height, Grade, Method, FirstStage, WideningPlace}
 use Rattle.card.specs.Told.{refusal_number}
 
 pub not_nought : (e : Refusal) → refusal_number e ≡ 0 → ⊥
@@ -18,3 +18,6 @@ not_nought Unit is = absurd (omega arith)
 not_nought ShortTable is = absurd (omega arith)
 not_nought Height is = absurd (omega arith)
 not_nought Grade is = absurd (omega arith)
+not_nought Method is = absurd (omega arith)
+not_nought FirstStage is = absurd (omega arith)
+not_nought WideningPlace is = absurd (omega arith)

@@ -1,6 +1,7 @@
 /*
- * Pippinterm: the table of heights of a curve card, a day's cards in one table,
- * the book of cards, read and written, and the least length of a clothoid.
+ * Pippinterm: the table of heights of a curve card, by 503-0-45 or by the Minsk
+ * handbook, a day's cards in one table, the book of cards, read and written, and
+ * the least length of a clothoid.
  *
  * Link libcapi.a, which `rt lib --cpu x86-64` in crates/capi proves and builds
  * for x86-64 and the System V calling convention, as gcc has it there, and for
@@ -37,8 +38,8 @@ extern "C" {
 /* The version of the library that this header is delivered with, as three numbers
    and as text with points between; CHANGES.md says what each version brought. */
 #define PIPPINTERM_VERSION_MAJOR 0
-#define PIPPINTERM_VERSION_MINOR 6
-#define PIPPINTERM_VERSION_PATCH 4
+#define PIPPINTERM_VERSION_MINOR 7
+#define PIPPINTERM_VERSION_PATCH 0
 #define PIPPINTERM_VERSION_JOINED_(major, minor, patch) #major "." #minor "." #patch
 #define PIPPINTERM_VERSION_JOINED(major, minor, patch) \
     PIPPINTERM_VERSION_JOINED_(major, minor, patch)
@@ -72,7 +73,7 @@ extern "C" {
 #define PIPPINTERM_MARK_RELATIVE 0    /* the height and the grade are 0 in a list that was read */
 #define PIPPINTERM_MARK_ABSOLUTE 1
 
-/* The numbers of a row, in their order: the station in mm, the others in
+/* The numbers of a row by 503-0-45, in their order: the station in mm, the others in
    counts of the card's unit, each rounded once from its exact fraction to the
    nearest. Halfway goes to the higher number where the unit is 1 mm and to the
    lower where it is 10 mm, also below nought: 67.5 mm to 68 and -67.5 mm to -67,
@@ -90,6 +91,23 @@ extern "C" {
 #define PIPPINTERM_ROW_OUTER_BROW 6
 #define PIPPINTERM_ROW_NUMBERS 7
 
+/* The numbers of a row by the Minsk handbook, in their order: the station in mm, the
+   others in counts of the card's unit, rounded as above. Heights count from the axis,
+   or from the benchmark where the card is absolute. The strip is the paved part of
+   the shoulder next to the carriageway; the outer shoulder and both strips lie at
+   the carriageway's slope, the inner shoulder beyond its strip at 40 per mille or at
+   the inner slope, whichever is greater. */
+#define PIPPINTERM_MINSK_ROW_STATION 0
+#define PIPPINTERM_MINSK_ROW_WIDENING 1
+#define PIPPINTERM_MINSK_ROW_AXIS 2
+#define PIPPINTERM_MINSK_ROW_OUTER_EDGE 3
+#define PIPPINTERM_MINSK_ROW_OUTER_STRIP 4
+#define PIPPINTERM_MINSK_ROW_OUTER_BROW 5
+#define PIPPINTERM_MINSK_ROW_INNER_EDGE 6
+#define PIPPINTERM_MINSK_ROW_INNER_STRIP 7
+#define PIPPINTERM_MINSK_ROW_INNER_BROW 8
+#define PIPPINTERM_MINSK_ROW_NUMBERS 9
+
 /* The numbers of a curve in a card list, in their order. The card of curve i, counted
    from 0, is handed on as it stands: list + 13 x i + 2. */
 #define PIPPINTERM_CURVE_NAME_PLACE 0 /* byte place of the name in the text or in the names' bytes, from 0 */
@@ -105,6 +123,7 @@ extern "C" {
 /* Sizes. */
 #define PIPPINTERM_MOST_ROWS 301      /* no card has more rows */
 #define PIPPINTERM_ENOUGH_TABLE 2107  /* numbers of a table that is long enough for every card */
+#define PIPPINTERM_ENOUGH_MINSK_TABLE 2709 /* the same by the handbook */
 #define PIPPINTERM_MOST_CARDS 64      /* no day has more cards */
 #define PIPPINTERM_ENOUGH_DAY 134848  /* numbers of a table that is long enough for every day */
 #define PIPPINTERM_ENOUGH_REPLIES 128 /* numbers of a reply list that is long enough for every day */
@@ -128,7 +147,16 @@ extern "C" {
 
      30:30  40:30  50:35  60:40  70:40  80:45  90:45  100:50  125:55  150:60
      200:70  250:80  300:90  400:100  500:110  600:120  700:120  800:120
-     1000:120  2000:100 */
+     1000:120  2000:100
+
+   The handbook has profiles 1 to 3 alone, with these widths in mm: half the
+   carriageway, shoulder with its strip, strip, and the least that widening leaves
+   of the inner shoulder with its strip. Its crown slope is 20 per mille; least
+   radius, least length and added slope are those above.
+
+     II   3500  3000  750  1500
+     III  3500  2500  500  1500
+     IV   3000  2000  500  1000 */
 
 /* What a turned-away card, book, day or list says: the trade's word, and the condition.
    A line is malformed where it is missing, not ended by byte 10, or anything
@@ -146,10 +174,12 @@ extern "C" {
 #define PIPPINTERM_REFUSED_WIDENING 6         /* widening: above 3500, or above 0 with a radius above 1000 */
 #define PIPPINTERM_REFUSED_NARROW_SHOULDER 7  /* narrow shoulder: no longer given; the bank is widened instead */
 #define PIPPINTERM_REFUSED_ADDED_SLOPE 8      /* added slope: half the carriageway x (crown slope + full
-                                                 slope) above added slope x length of the clothoid */
+                                                 slope) above added slope x length of the clothoid; by
+                                                 the handbook, half the carriageway x (full slope - 20)
+                                                 above added slope x (length - length x radius / 2000) */
 #define PIPPINTERM_REFUSED_STEP 9             /* step: below 1000 or above 20000 */
 #define PIPPINTERM_REFUSED_UNIT 10            /* unit: not 1 or 10 */
-#define PIPPINTERM_REFUSED_SHORT_TABLE 11     /* short table: below 7 numbers a row */
+#define PIPPINTERM_REFUSED_SHORT_TABLE 11     /* short table: below 7 numbers a row, by the handbook 9 */
 #define PIPPINTERM_REFUSED_BOOK_SIZE 21       /* book size: 0 bytes, or above 8192; line 0 */
 #define PIPPINTERM_REFUSED_COUNT_LINE 22      /* count line: malformed, or not 1 to 64 */
 #define PIPPINTERM_REFUSED_CONTENTS_LINE 23   /* contents line: malformed */
@@ -171,9 +201,16 @@ extern "C" {
 #define PIPPINTERM_REFUSED_HEIGHT 34          /* height: of an absolute card, outside -100000 to 9000000, or
                                                  not a whole number of units */
 #define PIPPINTERM_REFUSED_GRADE 35           /* grade: of an absolute card, outside -80 to 80 */
+#define PIPPINTERM_REFUSED_METHOD 36          /* method, by the handbook alone: a full slope of 20, a radius
+                                                 of 2000, or profile 4 or 5 */
+#define PIPPINTERM_REFUSED_FIRST_STAGE 37     /* first stage, by the handbook alone: half the carriageway x 8
+                                                 is longer than length x radius / 2000 */
+#define PIPPINTERM_REFUSED_WIDENING_PLACE 38  /* widening place, by the handbook alone: a widening above 0
+                                                 where the radius is above 500, or length x radius / 500
+                                                 is no whole mm */
 
 /*
- * Checks a card.
+ * Checks a card by 503-0-45.
  * Gives 0 where none of the reasons 1 to 6, 8 to 10, 34 and 35 is met, else the
  * number of the first one that is, in this order. A relative card meets neither 34
  * nor 35. Changes nothing.
@@ -194,7 +231,7 @@ uint32_t pippinterm_check_card(const int32_t card[PIPPINTERM_CARD_NUMBERS]);
 uint32_t pippinterm_least_length(uint32_t radius, uint32_t *looked);
 
 /*
- * Fills a table with the rows of a card.
+ * Fills a table with the rows of a card by 503-0-45.
  * Gives 0 for an accepted card: *count is then the count of rows, at most 301,
  * and the rows stand in the table from its start, seven numbers each, at
  * stations 0, step, 2 x step and so on below the clothoid's end, then one at
@@ -208,7 +245,35 @@ uint32_t pippinterm_fill_table(const int32_t card[PIPPINTERM_CARD_NUMBERS],
                                uint32_t *count);
 
 /*
- * Fills one table with the rows of a whole day's cards.
+ * Checks a card by the method of the Minsk handbook: the card is the same, but no book
+ * tells by which method it is meant, so such cards are not kept in books.
+ * Gives 0 where none of the reasons 1 to 6, 36, 37, 38, 8, 9, 10, 34 and 35 is met,
+ * else the number of the first one that is, in this order. Changes nothing.
+ */
+uint32_t pippinterm_check_minsk_card(const int32_t card[PIPPINTERM_CARD_NUMBERS]);
+
+/*
+ * Fills a table with the rows of a card by the method of the Minsk handbook.
+ * The road is crowned at 20 per mille up to station length x radius / 2000 less the
+ * first stage, which is half the carriageway x 8 long; through it the outer edge
+ * climbs at 5 per mille until the slope is 20 per mille; from there the slope goes
+ * in a straight line to the full slope at the clothoid's end. The widening starts
+ * 20 m before length x radius / 500, has grown there to all of it, in a straight
+ * line, and narrows the inner shoulder.
+ * Gives 0 for an accepted card: *count is then the count of rows, at most 301,
+ * and the rows stand in the table from its start, nine numbers each, at the
+ * stations of pippinterm_fill_table. The table's numbers after the last row are as
+ * they were.
+ * Else gives the number of the first reason met, those of the check and at last 11:
+ * *count is then 0, and the table is as it was.
+ * table_length is in numbers, not in bytes, and may be any, 0 too.
+ */
+uint32_t pippinterm_fill_minsk_table(const int32_t card[PIPPINTERM_CARD_NUMBERS],
+                                     int32_t *table, size_t table_length,
+                                     uint32_t *count);
+
+/*
+ * Fills one table with the rows of a whole day's cards, by 503-0-45.
  * Gives 0 for a list of at most 64 cards and a reply list of two numbers a card
  * or more: *count is then the count of cards, accepted or not. Each card, in
  * order, gets the part of the table that the cards before it have not used: its

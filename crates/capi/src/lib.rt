@@ -4,9 +4,13 @@
 
 ghost use Rattle.std.specs.Prelude.{◌≡◌, ◌<◌, length};
 ghost use Rattle.card.specs.Clothoid.{least_length, least_found};
+ghost use Rattle.card.specs.Told.{refusal_number, number_told};
 ghost use Rattle.runoff.specs.Refusal.{refusal};
 ghost use Rattle.runoff.specs.Table.{reply_to, table_after};
 ghost use Rattle.runoff.specs.Climbing.{ClimbingTable};
+ghost use Rattle.minsk.specs.Refusal.{refusal as minsk_refusal};
+ghost use Rattle.minsk.specs.Table.{reply_to as minsk_reply, table_after as minsk_table};
+ghost use Rattle.minsk.specs.Climbing.{ClimbingTable as MinskClimbing};
 ghost use Rattle.card_list.specs.List.{card_of, cards_of};
 ghost use Rattle.day.specs.Day.{day_reply, day_table, day_replies};
 ghost use Rattle.day.specs.Parts.{ClimbingDay};
@@ -14,7 +18,7 @@ ghost use Rattle.book.specs.Book.{reply_to_book, list_after};
 ghost use Rattle.book.specs.Writing.{reply_to_list, buffer_after};
 
 use book::{read_book, write_book};
-use card::{Numbered, in_numbers, least_length};
+use card::{Numbered, Refusal, in_numbers, least_length};
 use card_list::card_of_numbers;
 use day::fill_day;
 use runoff::{check_card, fill_table};
@@ -32,18 +36,25 @@ pub extern "C" fn pippinterm_least_length(radius: u32, looked: &mut u32) -> u32
     found.length
 }
 
-// 0 for an accepted card, else the number of the first of its own reasons: 1 to 6, 8, 9, 10, 34 or 35.
-#[unsafe(no_mangle)]
-pub extern "C" fn pippinterm_check_card(card: &[i32; 11]) -> u32
-    ensures { result ≡ refusal (card_of card.now) }
+// The answer of a check in the papers' numbers: 0, or that of the refusal.
+fn number_of(answer: Result<(), Refusal>) -> u32
+    ensures { result ≡ number_told refusal_number answer }
 {
-    match check_card(card_of_numbers(card)) {
+    match answer {
         Ok(()) => 0,
         Err(refusal) => refusal.number(),
     }
 }
 
-// Fills the lent table with the card's rows: 0, and `count` has how many; or the number of the reason, 1 to 6, 8 to 11, 34 or 35, `count` has 0, and the table is as it was.
+// By 503-0-45: 0 for an accepted card, else the number of the first of its own reasons: 1 to 6, 8, 9, 10, 34 or 35.
+#[unsafe(no_mangle)]
+pub extern "C" fn pippinterm_check_card(card: &[i32; 11]) -> u32
+    ensures { result ≡ refusal (card_of card.now) }
+{
+    number_of(check_card(card_of_numbers(card)))
+}
+
+// Fills the lent table with the card's rows by 503-0-45: 0, and `count` has how many; or the number of the reason, 1 to 6, 8 to 11, 34 or 35, `count` has 0, and the table is as it was.
 #[unsafe(no_mangle)]
 pub extern "C" fn pippinterm_fill_table(card: &[i32; 11], table: &mut [i32], count: &mut u32) -> u32
     ensures value { result ≡ (reply_to (card_of card.now) (length table.old)).number }
@@ -53,6 +64,33 @@ pub extern "C" fn pippinterm_fill_table(card: &[i32; 11], table: &mut [i32], cou
 {
     let (number, rows) = in_numbers(fill_table(card_of_numbers(card), table));
     *count = rows;
+    number
+}
+
+// By the method of the Minsk handbook: 0 for an accepted card, else the number of the first of its own reasons: 1 to 6, 36 to 38, 8, 9, 10, 34
+// or 35.
+#[unsafe(no_mangle)]
+pub extern "C" fn pippinterm_check_minsk_card(card: &[i32; 11]) -> u32
+    ensures { result ≡ minsk_refusal (card_of card.now) }
+{
+    number_of(minsk::check_card(card_of_numbers(card)))
+}
+
+// Fills the lent table with the card's rows by that method, nine numbers each: 0, and `count` has how many; or the number of the reason, those
+// of the check and 11, `count` has 0, and the table is as it was.
+#[unsafe(no_mangle)]
+pub extern "C" fn pippinterm_fill_minsk_table(
+    card: &[i32; 11],
+    table: &mut [i32],
+    count: &mut u32,
+) -> u32
+    ensures value { result ≡ (minsk_reply (card_of card.now) (length table.old)).number }
+    ensures count_after { count.new ≡ (minsk_reply (card_of card.now) (length table.old)).count }
+    ensures table_after { table.new ≡ minsk_table (card_of card.now) table.old }
+    ensures climbing_table { result ≡ 0 → MinskClimbing (card_of card.now) count.new table.new }
+{
+    let (number, stations) = in_numbers(minsk::fill_table(card_of_numbers(card), table));
+    *count = stations;
     number
 }
 

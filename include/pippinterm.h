@@ -93,10 +93,10 @@ extern "C" {
 
 /* The numbers of a row by the Minsk handbook, in their order: the station in mm, the
    others in counts of the card's unit, rounded as above. Heights count from the axis,
-   or from the benchmark where the card is absolute. The strip is the paved part of
-   the shoulder next to the carriageway; the outer shoulder and both strips lie at
-   the carriageway's slope, the inner shoulder beyond its strip at 40 per mille or at
-   the inner slope, whichever is greater. */
+   or from the benchmark where the card is absolute. The strip is the strengthened
+   part of the shoulder beside the carriageway; the outer shoulder and both strips lie
+   at the carriageway's slope, the inner shoulder beyond its strip at 40 per mille or
+   at the inner slope, whichever is greater. */
 #define PIPPINTERM_MINSK_ROW_STATION 0
 #define PIPPINTERM_MINSK_ROW_WIDENING 1
 #define PIPPINTERM_MINSK_ROW_AXIS 2

@@ -10,8 +10,8 @@ const CHANGES: &str = include_str!("../../../docs/CHANGES.md");
 /// "What a turned-away card or book says", by the trade's word, which the header puts behind `REFUSED`.
 /// The constant for 7 stays, though "Number 7 never occurs again" (document 02, Slip 1).
 /// Slip 2 has no words for 29 and 30, nor has Slip 4 for 31 and 33, and its "twin name" is the word for 25: these are the header's own.
-/// The words for 34 and 35 are what Slip 5 refuses with them.
-const REFUSALS: [(&str, u32); 26] = [
+/// The words for 34 and 35 are what Slip 5 refuses with them. Slip 7 has none for 36 to 38: these are the header's own.
+const REFUSALS: [(&str, u32); 29] = [
     ("profile", 1),
     ("terrain", 2),
     ("radius", 3),
@@ -38,6 +38,9 @@ const REFUSALS: [(&str, u32); 26] = [
     ("short buffer", 33),
     ("height", 34),
     ("grade", 35),
+    ("method", 36),
+    ("first stage", 37),
+    ("widening place", 38),
 ];
 
 /// The greatest book: the count line, 64 names of 8 bytes with a blank and the end of the line, the lines 66 to 129 that they name, and
@@ -45,8 +48,8 @@ const REFUSALS: [(&str, u32); 26] = [
 const GREATEST_BOOK: u32 =
     3 + 64 * (8 + 1 + 1) + 34 * 2 + 30 * 3 + 64 * (8 * (7 + 1) + 2 * (1 + 7 + 1));
 
-/// The card, the row, the list, a day's replies, and the sizes; 0 for an accepted card, day, book or list.
-const OTHERS: [(&str, u32); 39] = [
+/// The card, the row by either method, the list, a day's replies, and the sizes; 0 for an accepted card, day, book or list.
+const OTHERS: [(&str, u32); 50] = [
     ("accepted", 0),
     ("card profile", 0),
     ("card terrain", 1),
@@ -70,6 +73,16 @@ const OTHERS: [(&str, u32); 39] = [
     ("row outer edge", 5),
     ("row outer brow", 6),
     ("row numbers", 7),
+    ("minsk row station", 0),
+    ("minsk row widening", 1),
+    ("minsk row axis", 2),
+    ("minsk row outer edge", 3),
+    ("minsk row outer strip", 4),
+    ("minsk row outer brow", 5),
+    ("minsk row inner edge", 6),
+    ("minsk row inner strip", 7),
+    ("minsk row inner brow", 8),
+    ("minsk row numbers", 9),
     ("curve name place", 0),
     ("curve name size", 1),
     ("curve card", 2),
@@ -79,6 +92,7 @@ const OTHERS: [(&str, u32); 39] = [
     ("reply numbers", 2),
     ("most rows", 300_000 / 1000 + 1),
     ("enough table", 7 * 301),
+    ("enough minsk table", 9 * 301),
     ("most cards", 64),
     ("enough day", 64 * 7 * 301),
     ("enough replies", 2 * 64),

@@ -1,0 +1,3 @@
+pub mod Slopes
+pub mod Widenings
+pub mod Heights

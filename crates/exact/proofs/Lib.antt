@@ -14,3 +14,4 @@ pub mod RoundedClimb
 pub mod Through
 pub mod Shifts
 pub mod Splits
+pub mod Strict

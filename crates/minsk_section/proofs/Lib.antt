@@ -1,3 +1,10 @@
+pub mod WidthEntries
 pub mod Slopes
 pub mod Widenings
 pub mod Heights
+pub mod EdgePieces
+pub mod ExactClimb
+pub mod DatumClimb
+pub mod TabledClimb
+pub mod Proper
+pub mod TurningRule

@@ -1,6 +1,5 @@
 -- The climbing rule of a section with its datum: above the axis the outer edge is lower by the relative axis at every station, so it climbs alike.
 -- Assumes nothing.
-use Prim.Native.Nat.{◌<◌}
 use native.Mathlib.Nat.{mul-pos}
 use native.Mathlib.Omega.{arith}
 use Rattle.exact.specs.Exact.{Exact}

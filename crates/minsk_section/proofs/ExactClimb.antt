@@ -3,14 +3,14 @@
 use mathlib.Core.Logic.{◌⊎◌, inl, inr}
 use Prim.Native.Nat.{ℕ, ◌<◌}
 use native.Mathlib.Omega.{arith}
-use Rattle.exact.specs.Exact.{Exact, ◌≼◌, ◌≺◌, ◌≈◌}
+use Rattle.exact.specs.Exact.{Exact, ◌≼◌, ◌≺◌}
 use Rattle.exact.proofs.Order.{≼_refl, ≼_trans, ≺→≼, ask}
 use Rattle.exact.proofs.Is.{is_same}
 use Rattle.exact.proofs.Climb.{Climb, climb_trans}
 use Rattle.exact.proofs.Pieces.{piece_climbs, glued_proper, glued_climbs}
 use Rattle.exact.proofs.Strict.{glued_strict}
 use Rattle.minsk_section.specs.Lines.{Section, On, stage_start, outer_edge, Premises, Gentle}
-use Rattle.minsk_section.specs.Climbing.{Staged, ClimbsBy, LevelBy, ClimbsTheorem}
+use Rattle.minsk_section.specs.Climbing.{ClimbsBy, LevelBy, ClimbsTheorem}
 use Rattle.minsk_section.proofs.Heights.{outer_edge_lem}
 use Rattle.minsk_section.proofs.Proper.{slope_at}
 use Rattle.minsk_section.proofs.EdgePieces.{start_on, start_staged, slope_crowned, on_level, level_gentle, gains, edge_glued}

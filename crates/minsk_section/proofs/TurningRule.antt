@@ -1,12 +1,12 @@
 -- Every line is a fraction, and slope, widening and shoulder go as the request words them.
 -- Assumes nothing.
 use mathlib.Core.Path.{◌≡◌, ap}
-use Prim.Native.Nat.{ℕ, suc, ◌+◌, ◌*◌, ◌-◌, ◌≤◌, ◌<◌, max}
+use Prim.Native.Nat.{ℕ, suc, ◌+◌, ◌*◌, ◌-◌, ◌≤◌, ◌<◌}
 use native.Mathlib.Nat.{mul-le-mul_left, mul-le-mul_right}
 use native.Mathlib.Decide.{dec_le}
 use native.Mathlib.Omega.{arith}
 use Rattle.exact.specs.Exact.{Exact, whole, minus, ◌≼◌, ◌≈◌}
-use Rattle.exact.proofs.Is.{is_frac, is_one, is_minus, is_net, is_sub, is_lt, is_eq, is_le}
+use Rattle.exact.proofs.Is.{is_frac, is_one, is_minus, is_sub, is_lt, is_eq, is_le}
 use Rattle.exact.proofs.Pieces.{piece_exactly}
 use Rattle.minsk_section.specs.Lines.{Section, On, stage_start, stage_end, outer_slope, widening, inner_shoulder, outer_edge, Premises}
 use Rattle.minsk_section.specs.Turning.{TurnsTheorem}

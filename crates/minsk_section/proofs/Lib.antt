@@ -8,3 +8,4 @@ pub mod DatumClimb
 pub mod TabledClimb
 pub mod Proper
 pub mod TurningRule
+pub mod FiguresComputed

@@ -3,3 +3,4 @@ pub mod Lines
 pub mod Turning
 pub mod Datum
 pub mod Climbing
+pub mod Figures

@@ -6,7 +6,7 @@ use native.Mathlib.Nat.{mul-pos, mul-lt-mul_of_pos_left}
 use native.Mathlib.Omega.{arith}
 use Rattle.exact.specs.Exact.{Exact, whole, ◌≼◌}
 use Rattle.exact.specs.Parts.{Is}
-use Rattle.exact.proofs.Order.{above, ≼_refl}
+use Rattle.exact.proofs.Order.{above, ≼_refl, le_in, le_out}
 use Rattle.exact.proofs.Is.{is_frac, is_one, is_as, is_net, is_le, le_is, station_is, whole_le}
 use Rattle.exact.proofs.Pieces.{Piece, Gently, OnPiece, Glued}
 use Rattle.minsk_section.specs.Lines.{Section, On, stage_start, stage_end, outer_slope, outer_edge, Premises, Gentle}
@@ -16,6 +16,10 @@ use Rattle.minsk_section.proofs.Heights.{outer_edge_lem}
 
 pub on_whole : (x : Section) (d : ℕ) → d ≤ x.L → On x (whole d)
 on_whole x d h = record { fraction = omega arith; from = whole_le 0 d (omega arith); to = whole_le d x.L h }
+
+-- what the climbing rule speaks of is past the first stage's start
+staged_past : {x : Section} {s : Exact} → Staged x s → stage_start x ≼ s
+staged_past a = le_in (omega (arith, le_out a.past))
 
 module _ (x : Section) where
   -- L × R, the stage's start over 2000, and what is left of the clothoid past its end over 2000
@@ -157,6 +161,6 @@ module _ {x : Section} (ok : Premises x) where
         joint = end_staged;
         first = record { some = omega arith; gentle = omega (arith, soft.steep) };
         second = record { some = omega (arith, run); gentle = soft.gentle };
-        before = λ s a h. on_first a.on a.past h;
+        before = λ s a h. on_first a.on (staged_past a) h;
         past = λ s a h. on_second a.on h;
       }

@@ -1,11 +1,12 @@
+pub mod ComputedFigures
 pub mod WidthEntries
 pub mod Slopes
 pub mod Widenings
 pub mod Heights
 pub mod EdgePieces
+pub mod Proper
 pub mod ExactClimb
 pub mod DatumClimb
 pub mod TabledClimb
-pub mod Proper
 pub mod TurningRule
-pub mod FiguresComputed
+pub mod FirstStage

@@ -43,11 +43,15 @@ unwidened = card 2 2 499 150001 45 0 5000 1
 abbrev pub example : Card
 example = card 1 1 600 140000 50 0 10000 10
 
--- THEOREM (proofs/FiguresComputed.antt)
-pub record Figures : Type 0 where
-  -- "For II the first stage is 28 m long; 3.5 m into it the outer edge is −0.0525 m": so it is of every section with this half carriageway
+-- THEOREM (proofs/FirstStage.antt): so it is of every section with the half carriageway of II, 3500
+pub record FirstStageFigures : Type 0 where
+  -- "For II the first stage is 28 m long; .."
   pub length : (x : Section) → x.h ≡ 3500 → first_length x ≈ whole 28000
+  -- ".. 3.5 m into it the outer edge is −0.0525 m."
   pub into_it : (x : Section) → Premises x → x.h ≡ 3500 → outer_edge x (stage_start x ⊕ whole 3500) ≈ minus 52500
+
+-- THEOREM (proofs/ComputedFigures.antt)
+pub record Figures : Type 0 where
   -- II, whose first stage lies from 12 m to 40 m, and whose widening of 1500, all that the shoulder gives, grows from 140 m to 160 m; from
   -- 120 m on the shoulder is turned with the lane
   pub second_crowned :

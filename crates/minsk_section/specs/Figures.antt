@@ -129,8 +129,8 @@ pub record Figures : Type 0 where
   pub unwidened_end :
       Are unwidened (whole 150001)
       (whole 45 ∷ whole 0 ∷ whole 2500 ∷ whole 0 ∷ whole 157500 ∷ whole 180000 ∷ whole 270000 ∷ minus 157500 ∷ minus 180000 ∷ minus 270000 ∷ [])
-  -- the handbook's own example 2.1, which prints these in cm: −0.07 −0.085 −0.13, −0.07 −0.085 −0.18; −0.04 −0.05 −0.08; 0.01 0.01 0.01;
-  -- 0.06 0.07 0.11; 0.07 0.085 0.13; the inner lines stay
+  -- the handbook's own example 2.1, whose first stage lies from 14 m to 42 m: it has the outer edge at −0.07, −0.0425, 0.0075, 0.0575 and 0.07 m
+  -- there, and the inner lines at −0.07, −0.085 and −0.18 m, to the centimetre, all along
   pub example_start :
       Are example (whole 14000)
       (minus 20 ∷ whole 0 ∷ whole 3000 ∷ whole 0 ∷ minus 70000 ∷ minus 85000 ∷ minus 130000 ∷ minus 70000 ∷ minus 85000 ∷ minus 175000 ∷ [])

@@ -1,6 +1,6 @@
 -- Exact fractions: a whole number over a whole number above nought, never rounded.
 -- Assumes nothing.
-use Rattle.std.specs.Prelude.{◌≡◌, Bool, cond, ℕ, ◌*◌, ◌<◌, ℤ, pos, neg_ℤ, nat_abs, ◌+ℤ◌, ◌-ℤ◌, ◌*ℤ◌, ◌≤ℤ◌, ◌<ℤ◌}
+use Rattle.std.specs.Prelude.{◌≡◌, Bool, true, false, cond, ◌&&◌, List, [], ◌∷◌, ℕ, ◌*◌, ◌<◌, ℤ, pos, neg_ℤ, nat_abs, ◌+ℤ◌, ◌-ℤ◌, ◌*ℤ◌, ◌≤ℤ◌, ◌<ℤ◌}
 use Rattle.std.specs.Int.Signed.{le_z}
 
 -- num/den; den is above 0 in every fraction that a theorem compares, and the theorem says so
@@ -62,6 +62,13 @@ at_most x y = le_z (x.num *ℤ pos y.den) (y.num *ℤ pos x.den)
 
 abbrev pub greater : Exact → Exact → Exact
 greater x y = cond (at_most x y) y x
+
+-- number by number the same: neither is below the other
+abbrev pub same : List Exact → List Exact → Bool
+same [] [] = true
+same (x ∷ xs) (y ∷ ys) = at_most x y && at_most y x && same xs ys
+same [] (y ∷ ys) = false
+same (x ∷ xs) [] = false
 
 -- the value at x of the straight line that has y₀ at x₀ and y₁ at x₁
 abbrev pub line : Exact → Exact → Exact → Exact → Exact → Exact

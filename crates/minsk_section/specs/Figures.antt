@@ -1,7 +1,7 @@
 -- Lines at some stations, exact, in micrometres: worked out from document 02's words outside this code, not from the definitions.
 -- Assumes nothing.
-use Rattle.std.specs.Prelude.{◌≡◌, Bool, true, false, ◌&&◌, List, [], ◌∷◌}
-use Rattle.exact.specs.Exact.{Exact, frac, whole, minus, ratio, ◌⊕◌, ◌≈◌, at_most}
+use Rattle.std.specs.Prelude.{◌≡◌, true, List, [], ◌∷◌}
+use Rattle.exact.specs.Exact.{Exact, frac, whole, minus, ratio, ◌⊕◌, ◌≈◌, same}
 use Rattle.card.specs.declared.Card.{Card}
 use Rattle.card.specs.Card.{card}
 use Rattle.minsk_section.specs.Lines.{Section, section_of, first_length, stage_start, outer_slope, widening, inner_shoulder, axis, outer_edge, outer_strip, outer_brow, inner_edge, inner_strip, inner_brow, Premises}
@@ -12,13 +12,6 @@ abbrev pub lines_at : Section → Exact → List Exact
 lines_at x s =
     outer_slope x s ∷ widening x s ∷ inner_shoulder x s ∷
     axis ∷ outer_edge x s ∷ outer_strip x s ∷ outer_brow x s ∷ inner_edge x s ∷ inner_strip x s ∷ inner_brow x s ∷ []
-
--- number by number the same: neither is below the other
-abbrev pub same : List Exact → List Exact → Bool
-same [] [] = true
-same (x ∷ xs) (y ∷ ys) = at_most x y && at_most y x && same xs ys
-same [] (y ∷ ys) = false
-same (x ∷ xs) [] = false
 
 abbrev pub Are : Card → Exact → List Exact → Type 0
 Are card s figures = same (lines_at (section_of card) s) figures ≡ true

@@ -4,8 +4,9 @@ use Prim.Native.Nat.{ℕ, ◌<◌}
 use native.Mathlib.Nat.{mul-pos}
 use native.Mathlib.Omega.{arith}
 use Rattle.exact.specs.Exact.{Exact, ◌⊖◌}
-use Rattle.exact.proofs.Order.{≼_trans, ≼-antisym, ≈→≼, ≈-sym}
-use Rattle.exact.proofs.Shifts.{Less, less_le, le_less, less_lt, same_apart}
+use Rattle.exact.proofs.Order.{≼_trans, ≈→≼}
+use Rattle.exact.proofs.Shifts.{Less, less_lt, same_apart}
+use Rattle.exact.proofs.Strict.{less_same, same_less}
 use Rattle.card.specs.declared.Datum.{Datum}
 use Rattle.card.specs.declared.Datum.TheVariants.{Relative, Absolute}
 use Rattle.card.proofs.Moving.{kept}
@@ -21,8 +22,8 @@ climbs_less {X = X} {Y = Y} f g c =
     record {
       fractions = (f.new, g.new);
       equal = (
-        λ e. c.equal.0 (≼-antisym (le_less f g (≈→≼ e)) (le_less g f (≈→≼ (≈-sym e)))),
-        λ w. let e = c.equal.1 w in ≼-antisym (less_le f g (≈→≼ e)) (less_le g f (≈→≼ (≈-sym e))),
+        λ e. c.equal.0 (same_less f g e),
+        λ w. less_same f g (c.equal.1 w),
       );
       higher = λ h n. less_lt f g (c.higher h n);
       gentle = λ h. ≼_trans {y = Y ⊖ X} (mul-pos g.old f.old) (≈→≼ (same_apart f g)) (c.gentle h);

@@ -1,7 +1,7 @@
 -- Lines at some stations, exact, in micrometres: worked out from documents 01 and 02 outside this code, not from the definitions.
 -- Assumes nothing.
-use Rattle.std.specs.Prelude.{◌≡◌, Bool, true, false, ◌&&◌, List, [], ◌∷◌, ℕ}
-use Rattle.exact.specs.Exact.{Exact, frac, whole, minus, ratio, at_most}
+use Rattle.std.specs.Prelude.{◌≡◌, true, List, [], ◌∷◌, ℕ}
+use Rattle.exact.specs.Exact.{Exact, frac, whole, minus, ratio, same}
 use Rattle.card.specs.declared.Card.{Card}
 use Rattle.card.specs.Card.{card, ramp}
 use Rattle.section.specs.Lines.{Section, section_of, axis, outer_slope, outer_edge, outer_brow, widening, inner_shoulder, inner_edge, inner_brow}
@@ -9,13 +9,6 @@ use Rattle.section.specs.Lines.{Section, section_of, axis, outer_slope, outer_ed
 -- at a station: outer slope in ‰, widening and inner shoulder in mm; inner brow, inner edge, axis, outer edge and outer brow in micrometres
 abbrev pub lines_at : Section → Exact → List Exact
 lines_at x s = outer_slope x s ∷ widening x s ∷ inner_shoulder x s ∷ inner_brow x s ∷ inner_edge x s ∷ axis x ∷ outer_edge x s ∷ outer_brow x s ∷ []
-
--- number by number the same: neither is below the other
-abbrev pub same : List Exact → List Exact → Bool
-same [] [] = true
-same (x ∷ xs) (y ∷ ys) = at_most x y && at_most y x && same xs ys
-same [] (y ∷ ys) = false
-same (x ∷ xs) [] = false
 
 abbrev pub Are : Card → Exact → List Exact → Type 0
 Are card s figures = same (lines_at (section_of card) s) figures ≡ true

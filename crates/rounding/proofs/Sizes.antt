@@ -8,8 +8,10 @@ use lib.Dec.{leb}
 use lib.IntN.{ℤ, pos, negsuc, nat_abs}
 use lib.Signed.{mag}
 use borrow.Author.Tests.{leb-true, ltb-true, le-leb, lt-ltb}
-use Rattle.exact.specs.Rounding.{rounded}
+use Rattle.exact.specs.Rounding.{Tie, rounded}
 use Rattle.exact.specs.Parts.{up, dn}
+use Rattle.exact.proofs.Integers.{abs_parts}
+use Rattle.exact.proofs.Rounded.{rounded_size}
 use Rattle.rounding.specs.Nearest.{most_over, Roundable, roundable, nearest_of, NearestTheorem, most_divisor, floor_of, FloorTheorem}
 
 both : (a b : Bool) → (a && b) ≡ true → (a ≡ true) × (b ≡ true)
@@ -53,6 +55,23 @@ unfolding nearest_of
 nearest_laws tie num den unit =
     let given : Bool → ℤ = λ t. cond t (rounded tie (1000 * unit) (record { num = num; den = den })) (pos 0) in
     record { within = λ z. ap given (test_holds z); beyond = λ never. ap given (test_fails never) }
+
+-- what is given is never farther from nought than the reach, in the smallest unit
+module _ (tie : Tie) (unit : ℕ) (num : ℤ) (den : ℕ) where
+  rounded_few : Roundable num den unit → nat_abs (rounded tie (1000 * unit) (record { num = num; den = den })) ≤ 4194304
+  rounded_few z =
+      rounded_size tie (omega (arith, z.unit_least)) (record { num = num; den = den }) (omega (arith, z.near)) 4194304
+      (omega (arith, z.near, mag_parts num, abs_parts num))
+
+  pub nearest_few : nat_abs (nearest_of tie unit num den) ≤ 4194304
+  unfolding nearest_of
+  nearest_few = go (roundable num den unit) holds_test
+    where
+      go :
+          (t : Bool) → (t ≡ true → Roundable num den unit) →
+          nat_abs (cond t (rounded tie (1000 * unit) (record { num = num; den = den })) (pos 0)) ≤ 4194304
+      go true f = rounded_few (f refl)
+      go false f = omega arith
 
 pub floor_of_lem : FloorTheorem
 unfolding floor_of

@@ -10,7 +10,10 @@ pub mod Unmet
 pub mod Surveys
 pub mod Entries
 pub mod RowPlaces
+pub mod InOrder
+pub mod NumbersGiven
 pub mod Accepts
 pub mod Joined
+pub mod RowsInto
 pub mod AccurateNumbers
 pub mod Moving

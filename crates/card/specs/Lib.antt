@@ -3,6 +3,7 @@ pub mod Card
 pub mod Profile
 pub mod Clothoid
 pub mod Rows
+pub mod RowsInto
 pub mod Datum
 pub mod Reasons
 pub mod Table

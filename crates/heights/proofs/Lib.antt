@@ -1,3 +1,4 @@
 pub mod Counts
 pub mod AxisSplit
 pub mod OnAxis
+pub mod Passed

@@ -1,15 +1,16 @@
 -- A card is accepted exactly when each reason, turned round, holds; and then its profile has the sizes of the table.
 -- Assumes nothing.
-use mathlib.Core.Path.{◌≡◌, refl, sym, ap, ◌∙◌}
-use mathlib.Core.List.{◌++◌}
+use mathlib.Core.Path.{◌≡◌, refl}
 use Prim.Native.Nat.{◌≤◌}
 use lib.Dec.{lit<}
 use Rattle.card.specs.declared.Card.{Card}
 use Rattle.card.specs.declared.Profile.{Profile}
 use Rattle.card.specs.Profile.{profile_at, added_of}
-use Rattle.card.specs.Reasons.{first, tests_after, refusal_before, refusal_after}
+use Rattle.card.specs.Reasons.{first}
 use Rattle.card.specs.Accepted.{Sizes}
-use Rattle.card.proofs.Tests.{passes, then, first_then, then_none, before_then, after_first}
+use Rattle.card.proofs.Tests.{passes}
+use Rattle.card.proofs.InOrder.{Lists, no_number}
+use Rattle.card.proofs.InOrder as in_order
 use Rattle.card.proofs.Steps.{at_start, passed}
 use Rattle.card.proofs.Unmet.{not_above}
 use Rattle.card.proofs.Accepts.{shared_rule, unit_in}
@@ -20,24 +21,9 @@ module _ (card : Card) where
   abbrev its : Profile
   its = profile_at card.profile
 
-  -- the reasons before, then this method's, then those after
-  pub in_order : refusal card ≡ then (refusal_before card) (then (first (method_tests its card)) (refusal_after card))
+  lists : refusal card ≡ 0 → Lists card (method_tests its card) refl
   unfolding refusal
-  in_order =
-      before_then card (method_tests its card ++ tests_after card)
-      ∙ ap (then (refusal_before card)) (first_then (method_tests its card) (tests_after card) refl ∙ ap (then (first (method_tests its card))) (after_first card))
-
-  -- what each list says of an accepted card
-  record Lists : Type 0 where
-    before : refusal_before card ≡ 0
-    own : first (method_tests its card) ≡ 0
-    after : refusal_after card ≡ 0
-
-  lists : refusal card ≡ 0 → Lists
-  lists e =
-      let first_two = then_none _ _ (sym in_order ∙ e) in
-      let last-two = then_none _ _ first_two.1 in
-      record { before = first_two.0; own = last-two.0; after = last-two.1 }
+  lists = in_order.lists card (method_tests its card) refl
 
   pub accepted : refusal card ≡ 0 → AcceptedBy its card
   accepted e =
@@ -52,7 +38,10 @@ module _ (card : Card) where
   none_own a = (passed (at_start (method_tests its card)) refl ((not_above _ _).1 a.added)).says
 
   not_refused : AcceptedBy its card → refusal card ≡ 0
-  not_refused a = in_order ∙ rw ((shared_rule card).before.1 a.before, none_own a, (shared_rule card).after.1 a.after)
+  unfolding refusal
+  not_refused a =
+      no_number card (method_tests its card) refl
+      (record { before = (shared_rule card).before.1 a.before; own = none_own a; after = (shared_rule card).after.1 a.after })
 
   pub sizes_of : refusal card ≡ 0 → Sizes its (added_of card)
   sizes_of e = (shared_rule card).sizes (lists e).before

@@ -7,8 +7,6 @@ pub mod Limits
 pub mod ClimbingTable
 pub mod Replies
 pub mod StationSlopes
-pub mod AxisSplit
-pub mod OnAxis
 pub mod RowLines
 pub mod MovedRows
 pub mod RowsWritten

@@ -1,10 +1,13 @@
 -- What the runoff of an accepted card keeps to.
 -- Assumes nothing.
 use mathlib.Core.Path.{◌≡◌, refl}
+use Prim.Native.Nat.{◌≤◌}
+use native.Mathlib.Nat.{mul-le-mul}
 use native.Mathlib.Omega.{arith}
 use Rattle.card.specs.declared.Card.{Card}
 use Rattle.runoff.specs.Refusal.{refusal}
-use Rattle.section.specs.Lines.{section_of}
+use Rattle.section.specs.Lines.{section_of, axis_height}
+use Rattle.runoff.specs.declared.Runoff.{Runoff}
 use Rattle.runoff.specs.Runoff.{runoff_of}
 use Rattle.runoff.specs.Reckoning.{section_in, Limits}
 use Rattle.runoff.proofs.Accepts.{accepted_rule}
@@ -33,3 +36,7 @@ module _ (card : Card) (passes : refusal card ≡ 0) where
         widening_most = a.before.widening_most;
         stages = refl;
       }
+
+-- the axis stays no higher than an axis can be held
+pub axis_most : {r : Runoff} → Limits r → axis_height (section_in r) ≤ 337500
+axis_most z = omega (arith, mul-le-mul z.shoulder_most z.side_most, mul-le-mul z.half_most z.crown_most)

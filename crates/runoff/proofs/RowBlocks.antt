@@ -7,8 +7,9 @@ use lib.IntN.{ℤ, pos}
 use lib.ListN.{length, get_or}
 use Rattle.card.specs.declared.Card.{Card}
 use Rattle.card.specs.Rows.{joined}
+use Rattle.card.proofs.Joined.{joined-none, joined-more, length_joined}
+use Rattle.card.proofs.RowsInto as into
 use Rattle.runoff.specs.Rows.{cells, row_of, row_count, row_width, station_of, rows}
-use Rattle.card.proofs.Joined.{joined-none, joined-more, length_joined, at_place}
 
 module _ (card : Card) where
   -- the numbers of row i, and of the first i rows
@@ -35,12 +36,10 @@ module _ (card : Card) where
   all_rows = refl
 
   pub length-rows : length (rows card) ≡ row_width * row_count card
-  unfolding rows
-  length-rows = length_first (row_count card)
+  length-rows = into.length_rows row_width block length_block (row_count card) all_rows
 
   -- number m of row i
   pub number_in :
       (rest : List ℤ) (i m : ℕ) → i < row_count card → m < row_width →
       get_or (rows card ++ rest) (row_width * i + m) (pos 0) ≡ get_or (block i) m (pos 0)
-  unfolding rows
-  number_in rest i m h g = at_place block row_width length_block (row_count card) i m h g rest (pos 0)
+  number_in = into.number_in row_width block length_block (row_count card) all_rows

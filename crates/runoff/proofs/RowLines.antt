@@ -5,7 +5,7 @@ use Prim.Native.Nat.{ℕ, ◌+◌, ◌*◌, ◌-◌, ◌≤◌, ◌<◌, max}
 use native.Mathlib.Nat.{mul-le-mul, mul-le-mul_right, mul-pos}
 use native.Mathlib.Omega.{arith}
 use lib.IntN.{pos}
-use Rattle.exact.specs.Exact.{Exact, whole, ratio, ◌⊕◌, ◌⊗◌}
+use Rattle.exact.specs.Exact.{Exact, whole, ratio, ◌⊗◌}
 use Rattle.exact.specs.Parts.{Is}
 use Rattle.exact.specs.Rounding.{rounded}
 use Rattle.exact.proofs.Rounded.{rounded_nought}
@@ -15,16 +15,17 @@ use Rattle.rounding.proofs.Parts.{Line, counted}
 use Rattle.card.specs.Rows.{tie, in_units}
 use Rattle.runoff.specs.declared.turning.Slopes.{Slopes}
 use Rattle.runoff.specs.declared.turning.Station.{Station}
-use Rattle.runoff.specs.declared.survey.Axis.{Axis}
-use Rattle.section.specs.Lines.{Section, axis_height, widening, outer_edge, outer_brow, inner_edge, inner_brow}
-use Rattle.runoff.specs.Reckoning.{section_in, SlopesAt, height_of, count_on}
-use Rattle.runoff.proofs.OnAxis.{counted_above}
+use Rattle.heights.specs.declared.axis.Axis.{Axis}
+use Rattle.section.specs.Lines.{Section, axis, axis_height, widening, outer_edge, outer_brow, inner_edge, inner_brow}
+use Rattle.heights.specs.Heights.{count_above, count_on}
+use Rattle.heights.proofs.OnAxis.{counted_above}
+use Rattle.runoff.specs.Reckoning.{section_in, SlopesAt}
 use Rattle.section.proofs.Heights.{outer_edge_lem, outer_brow_lem, inner_edge_lem, inner_brow_lem, widening_is}
 
--- y stands (p − q)/e above the axis that stays, and can be rounded so with the axis at a
+-- y stands (p − q)/e above the axis that stays, and is counted so with the axis at a
 pub record Above (a : Axis) (x : Section) (y : Exact) (p q e : ℕ) : Type 0 where
   pub sized : Sized (a.rest * e + p) q e a.unit
-  pub counted : in_units a.unit (height_of a ⊕ ratio p q e) ≡ count_on a x y
+  pub counted : count_above a p q e ≡ count_on a (axis x) y
 
 -- ---- the widening, which is no height
 module _ (t : Station) {u : ℕ} (low : 1 ≤ u) (high : u ≤ 10) where
@@ -83,18 +84,16 @@ module _ (t : Station) {s : Slopes} (z : SlopesAt (section_in t.runoff) t.d s) (
 
   above : (y : Exact) (p q e : ℕ) → e ≤ most_over → p ≤ 3000000 * e → q ≤ 4000000 * e → Is y (axis_height x * e + p) q e → Above a x y p q e
   above y p q e few high low f =
+      let sized : Sized (a.rest * e + p) q e a.unit =
       record {
-        sized =
-            record {
-              some = f.over;
-              few = few;
-              high = omega (arith, mul-le-mul_right e a.rest_most, f.over);
-              low = omega (arith, f.over);
-              unit = a.unit_least;
-              units = a.unit_most;
-            };
-        counted = counted_above a x y p q e f;
-      }
+        some = f.over;
+        few = few;
+        high = omega (arith, mul-le-mul_right e a.rest_most, f.over);
+        low = omega (arith, f.over);
+        unit = a.unit_least;
+        units = a.unit_most;
+      } in
+      record { sized = sized; counted = counted_above a (axis_height x) y p q e f sized }
 
   outer_few : s.outer.over ≤ most_over
   outer_few = omega (arith, z.outer_is.few)

@@ -1,18 +1,18 @@
 -- What the private functions that reckon a row ask and promise.
 -- Assumes nothing.
-use Rattle.std.specs.Prelude.{◌≡◌, List, ◌++◌, ℕ, zero, suc, ◌+◌, ◌*◌, ◌≤◌, ◌<◌, ℤ, pos, take, drop}
-use Rattle.exact.specs.Exact.{Exact, whole, ◌⊕◌, ◌⊖◌, ◌⊗◌, ◌≈◌}
+use Rattle.std.specs.Prelude.{◌≡◌, List, ℕ, ◌+◌, ◌*◌, ◌≤◌, ℤ, pos}
+use Rattle.exact.specs.Exact.{Exact, whole, ◌⊗◌}
 use Rattle.exact.specs.Parts.{Is}
-use Rattle.exact.specs.Rounding.{units}
 use Rattle.card.specs.Rows.{station_to, in_units}
 use Rattle.runoff.specs.declared.Runoff.{Runoff}
 use Rattle.runoff.specs.declared.turning.Slope.{Slope}
 use Rattle.runoff.specs.declared.turning.Slopes.{Slopes}
-use Rattle.runoff.specs.declared.survey.Axis.{Axis}
+use Rattle.heights.specs.declared.axis.Axis.{Axis}
+use Rattle.heights.specs.Heights.{count_on}
 use Rattle.runoff.specs.declared.rows.Sides.{Sides}
 use Rattle.runoff.specs.declared.rows.Row.{Row}
 use Rattle.section.specs.Lines.{Section, axis, outer_slope, inner_slope, shoulder_slope, widening, inner_brow, inner_edge, outer_edge, outer_brow}
-use Rattle.runoff.specs.Rows.{row_width, cells}
+use Rattle.runoff.specs.Rows.{cells}
 use Rattle.runoff.specs.Runoff.{stages_of}
 
 -- the section of a runoff as the code holds it
@@ -60,28 +60,13 @@ pub record SlopesAt (x : Section) (d : ℕ) (s : Slopes) : Type 0 where
   pub inner_high : s.inner ≤ 60 * s.outer.over
   pub shoulder_high : s.shoulder ≤ 60 * s.outer.over
 
--- ---- the axis as the code holds it
--- in micrometres
-abbrev pub height_of : Axis → Exact
-height_of a = units (1000 * a.unit) a.count ⊕ whole a.rest
-
--- it stands at y, and its unit has u mm
-pub record AxisIs (y : Exact) (u : ℕ) (a : Axis) : Type 0 where
-  pub fraction : 0 < y.den
-  pub is : height_of a ≈ y
-  pub unit : a.unit ≡ u
-
 -- ---- the row
--- the line y of a section whose axis stays, with the axis at a: its distance from the axis is kept, and the sum is rounded once
-unfoldable pub count_on : Axis → Section → Exact → ℤ
-count_on a x y = in_units a.unit (height_of a ⊕ (y ⊖ axis x))
-
--- the heights of the two sides at the station d
+-- the heights of the two sides at the station d, with the axis at a
 unfoldable pub inner_sides : Axis → Section → ℕ → Sides
-inner_sides a x d = record { brow = count_on a x (inner_brow x (whole d)); edge = count_on a x (inner_edge x (whole d)) }
+inner_sides a x d = record { brow = count_on a (axis x) (inner_brow x (whole d)); edge = count_on a (axis x) (inner_edge x (whole d)) }
 
 unfoldable pub outer_sides : Axis → Section → ℕ → Sides
-outer_sides a x d = record { brow = count_on a x (outer_brow x (whole d)); edge = count_on a x (outer_edge x (whole d)) }
+outer_sides a x d = record { brow = count_on a (axis x) (outer_brow x (whole d)); edge = count_on a (axis x) (outer_edge x (whole d)) }
 
 -- the row at the station d, where the axis is at a, and at n units
 unfoldable pub row_on : Axis → ℤ → Section → ℕ → Row
@@ -89,21 +74,12 @@ row_on a n x d =
     record {
       station = pos d;
       widening = in_units a.unit (whole 1000 ⊗ widening x (whole d));
-      inner_brow = count_on a x (inner_brow x (whole d));
-      inner_edge = count_on a x (inner_edge x (whole d));
+      inner_brow = count_on a (axis x) (inner_brow x (whole d));
+      inner_edge = count_on a (axis x) (inner_edge x (whole d));
       axis = n;
-      outer_edge = count_on a x (outer_edge x (whole d));
-      outer_brow = count_on a x (outer_brow x (whole d));
+      outer_edge = count_on a (axis x) (outer_edge x (whole d));
+      outer_brow = count_on a (axis x) (outer_brow x (whole d));
     }
-
--- a table with the numbers of row i replaced
-abbrev pub with_row : ℕ → List ℤ → List ℤ → List ℤ
-with_row i table numbers = take (row_width * i) table ++ (numbers ++ drop (row_width * i + row_width) table)
-
--- and with n rows from `first` on replaced, row i by f i
-unfoldable pub with_rows : (ℕ → List ℤ) → ℕ → ℕ → List ℤ → List ℤ
-with_rows f first zero table = table
-with_rows f first (suc n) table = with_row (first + n) (with_rows f first n table) (f (first + n))
 
 -- the numbers of row i of a table with this step and end, where the axis is at a, and at n units
 abbrev pub rows_on : Axis → ℤ → Section → ℕ → ℕ → ℕ → List ℤ

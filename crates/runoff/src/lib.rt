@@ -2,9 +2,7 @@
 #![tactic(auto)]
 
 mod conditions;
-mod counts;
 mod rows;
-mod survey;
 mod turning;
 
 ghost use Rattle.std.specs.Prelude.{◌≡◌, ◌≤◌, length, IfOk};

@@ -2,17 +2,17 @@
 ghost use Rattle.std.specs.Prelude.{◌≡◌, ◌++◌, ◌+◌, ◌*◌, ◌-◌, ◌≤◌, length, drop};
 ghost use Rattle.exact.specs.Exact.{whole, ◌⊗◌};
 ghost use Rattle.card.specs.Rows.{in_units, station_to};
-ghost use Rattle.section.specs.Lines.{widening};
+ghost use Rattle.section.specs.Lines.{axis_height, widening};
 ghost use Rattle.runoff.specs.Refusal.{refusal};
 ghost use Rattle.runoff.specs.Runoff.{runoff_of};
 ghost use Rattle.runoff.specs.Rows.{cells, row_count, row_width, rows};
-ghost use Rattle.runoff.specs.Reckoning.{section_in, SlopesAt, inner_sides, outer_sides, row_on, rows_on, with_rows};
+ghost use Rattle.card.specs.RowsInto.{with_rows};
+ghost use Rattle.runoff.specs.Reckoning.{section_in, Limits, SlopesAt, inner_sides, outer_sides, row_on, rows_on};
 
-use crate::counts::height;
-use crate::survey::Axis;
-use crate::turning::{Slopes, Station, at_least};
+use crate::turning::{Slopes, Station};
 use crate::{ROW_WIDTH, Runoff};
 use card::{Card, Datum, station_of};
+use heights::{Axis, at_least, height};
 
 // A row: the station in mm, the others in counts of the unit.
 #[derive(Clone, Copy)]
@@ -128,6 +128,14 @@ impl Row {
     }
 }
 
+// How high the axis stays, in micrometres.
+fn axis_height(r: Runoff) -> u64
+    requires { Limits r }
+    ensures { result ≡ axis_height (section_in r) }
+{
+    r.shoulder_width * r.shoulder_slope + r.half_width * r.crown_slope
+}
+
 impl Accepted {
     // The station of row i.
     fn station(self, i: u32) -> Station
@@ -144,7 +152,7 @@ impl Accepted {
     // Writes the rows from `first` up to `end` of a table that has them, where the axis stands at `axis`, and at this count of units.
     fn write_on(self, axis: Axis, number: i32, first: usize, end: usize, table: &mut [i32])
         requires { (first ≤ end) × (end ≤ self.count) × (row_width * end ≤ length table.old) }
-        ensures { table.new ≡ with_rows (rows_on axis number (section_in self.runoff) self.card.clothoid self.card.step) first (end - first) table.old }
+        ensures { table.new ≡ with_rows row_width (rows_on axis number (section_in self.runoff) self.card.clothoid self.card.step) first (end - first) table.old }
     {
         for i in first..end {
             let row = self.station(i as u32).row(axis, number);
@@ -159,7 +167,7 @@ impl Accepted {
         requires room { row_width * self.count ≤ length table.old }
         ensures { table.new ≡ rows self.card ++ drop (row_width * row_count self.card) table.old }
     {
-        let axis = Axis::still(self.runoff, u64::from(self.card.unit));
+        let axis = Axis::still(axis_height(self.runoff), u64::from(self.card.unit));
         self.write_on(axis, axis.number(), 0, self.count, table);
     }
 

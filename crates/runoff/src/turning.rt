@@ -1,10 +1,11 @@
 // The slopes at a station, over one denominator, in natural numbers.
-ghost use Rattle.std.specs.Prelude.{◌≡◌, ◌+◌, ◌*◌, ◌-◌, ◌≤◌, ◌<◌, max};
+ghost use Rattle.std.specs.Prelude.{◌≡◌, ◌+◌, ◌*◌, ◌≤◌, ◌<◌};
 ghost use Rattle.exact.specs.Exact.{whole};
 ghost use Rattle.section.specs.Lines.{outer_slope};
 ghost use Rattle.runoff.specs.Reckoning.{section_in, Limits, SlopeIs, SlopesAt};
 
 use crate::{Runoff, Stages};
+use heights::at_least;
 
 // A slope in per mille: (up - down) / over.
 #[derive(Clone, Copy)]
@@ -29,13 +30,6 @@ pub(crate) struct Station {
     pub d: u64,
     ghost limits: { Limits runoff },
     ghost within: { d ≤ runoff.clothoid },
-}
-
-// The greater of least and up - down, which may be below nought.
-pub(crate) fn at_least(least: u64, up: u64, down: u64) -> u64
-    ensures { result ≡ max least (up - down) }
-{
-    up.saturating_sub(down).max(least)
 }
 
 impl Station {

@@ -1,16 +1,20 @@
 -- `runoff::rows::Accepted::write_absolute` meets its contract.
 -- Assumes nothing.
 use mathlib.Core.Path.{◌≡◌, ◌∙◌}
+use Prim.Native.Nat.{◌≤◌}
 use native.Mathlib.Omega.{arith}
 use mir.Syntax.{w32}
 use mir.Val.{to_z, of_z}
 use mir.Facts.{to_z-of_z}
 use Rattle.card.specs.declared.Datum.TheVariants.{Absolute}
 use Rattle.card.proofs.RowPlaces.{station_most}
+use Rattle.section.specs.Lines.{axis}
+use Rattle.heights.proofs.OnAxis.{absolute_axis}
+use Rattle.heights.proofs.Passed.{climbs_of}
+use Rattle.runoff.specs.Rows.{station_of}
 use Rattle.runoff.specs.Reckoning.{section_in}
 use Rattle.runoff.proofs.Accepts.{accepted}
-use Rattle.runoff.proofs.MovedRows.{absolute_axis}
-use Rattle.runoff.proofs.RowsWritten.{none_written, one_written, all_written, same_row_on, surveyed}
+use Rattle.runoff.proofs.RowsWritten.{none_written, one_written, all_written, same_row_on}
 use Rattle.runoff.proofs.rows.Accepted.write_absolute.Goals as goal
 use Rattle.runoff.proofs.rows.Accepted.write_absolute.Goals.{Start}
 
@@ -21,26 +25,14 @@ datum_is s = rw (to_z-of_z s.ranges.height, to_z-of_z s.ranges.grade) s.requires
 pub loop-i-init : goal.loop-i-init
 loop-i-init c = none_written c.args.self.card c.args.table.now
 
-pub surveyed-axis-requires-clause-surveyed : goal.surveyed-axis-requires-clause-surveyed
-surveyed-axis-requires-clause-surveyed c =
-    let s = (goal.at.surveyed-axis-requires-clause-surveyed c).Start in
-    rw c.from-unit.ensures (surveyed c.args.self.card c.args.self.passes (datum_is s))
-
-pub surveyed-axis-requires-clause-d_bound : goal.surveyed-axis-requires-clause-d_bound
-surveyed-axis-requires-clause-d_bound c =
-    let card = c.args.self.card in
-    omega (
-      arith,
-      c.station_of-station.ensures,
-      station_most card.clothoid card.step c.loop-i.i,
-      (accepted card c.args.self.passes).before.clothoid_most,
-    )
-
 pub loop-i-preserved : goal.loop-i-preserved
 loop-i-preserved c =
     let a = c.args.self in
-    let stands = rw (c.from-unit.ensures, c.station_of-station.ensures) at c.surveyed-axis.ensures in
-    let is = absolute_axis (section_in a.runoff) _ (datum_is (goal.at.loop-i-preserved c).Start) stands in
+    let passed = accepted a.card a.passes in
+    let datum = datum_is (goal.at.loop-i-preserved c).Start in
+    let within : station_of a.card c.loop-i.i ≤ 330000 = omega (arith, station_most a.card.clothoid a.card.step c.loop-i.i, passed.before.clothoid_most) in
+    let stands = rw (c.from-unit.ensures, c.station_of-station.ensures) at c.surveyed-axis.ensures.within (climbs_of passed.after datum within) in
+    let is = absolute_axis (axis (section_in a.runoff)) _ datum stands in
     -- the axis's number, as it is read back
     let number = to_z-of_z {w = w32} (record { sfits = c.number.type_inv }) ∙ c.number.ensures in
     one_written a.card _ c.loop-i.i c.args.table.now (same_row_on a.card a.passes c.loop-i.i a.made is number) c.loop-i.invariant c.write_on.ensures

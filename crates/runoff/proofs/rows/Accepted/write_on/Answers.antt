@@ -1,16 +1,16 @@
 -- `runoff::rows::Accepted::write_on` meets its contract.
 -- Assumes nothing.
 use mathlib.Core.Path.{ap, ◌∙◌}
-use Rattle.runoff.specs.Rows.{cells}
-use Rattle.runoff.specs.Reckoning.{with_row}
-use Rattle.runoff.proofs.RowsWritten.{put_is, none_on, one_on}
+use Rattle.card.specs.RowsInto.{with_row}
+use Rattle.card.proofs.RowsInto.{put_is, none_on, one_on}
+use Rattle.runoff.specs.Rows.{cells, row_width}
 use Rattle.runoff.proofs.rows.Accepted.write_on.Goals as goal
 
 pub loop-i-init : goal.loop-i-init
-loop-i-init c = none_on _ c.args.first c.args.table.now
+loop-i-init c = none_on row_width _ c.args.first c.args.table.now
 
 pub loop-i-preserved : goal.loop-i-preserved
 loop-i-preserved c =
     let row = rw (c.station.ensures.runoff, c.station.ensures.d) at c.row-row.ensures in
-    one_on _ c.args.first c.loop-i.i c.args.table.now c.loop-i.auto.i c.loop-i.invariant
-    (put_is c.loop-i.i c.loop-i.table _ ∙ ap (with_row c.loop-i.i c.loop-i.table) (c.copy_from_slice.ensures.after ∙ c.cells.ensures ∙ ap cells row))
+    one_on row_width _ c.args.first c.loop-i.i c.args.table.now c.loop-i.auto.i c.loop-i.invariant
+    (put_is row_width c.loop-i.i c.loop-i.table _ ∙ ap (with_row row_width c.loop-i.i c.loop-i.table) (c.copy_from_slice.ensures.after ∙ c.cells.ensures ∙ ap cells row))

@@ -12,9 +12,6 @@ use Rattle.runoff.proofs.Fields.{same_sides}
 use Rattle.runoff.proofs.turning.Station.inner_sides.Goals as goal
 use Rattle.runoff.proofs.turning.Station.inner_sides.Goals.{After-at_least-kept}
 
-pub height-edge-requires : goal.height-edge-requires
-height-edge-requires c = (inner_edge_above c.args.self c.requires c.args.axis).sized
-
 -- the inner brow with what is kept of the shoulder as the call gives it
 brow_sized :
     (c : After-at_least-kept) →
@@ -26,9 +23,6 @@ brow_sized c = rw c.at_least-kept.ensures (inner_brow_above c.args.self c.requir
 
 pub overflow_add-lane-2 : goal.overflow_add-lane-2
 overflow_add-lane-2 c = record { fits = omega (arith, brow_sized (goal.at.overflow_add-lane-2 c).After-at_least-kept) }
-
-pub height-brow-requires : goal.height-brow-requires
-height-brow-requires c = brow_sized (goal.at.height-brow-requires c).After-at_least-kept
 
 pub returns : goal.returns
 unfolding inner_sides

@@ -5,6 +5,7 @@ use mir.Syntax.{w32}
 use mir.Facts.{to_z-of_z}
 use Rattle.rounding.proofs.Parts.{counted}
 use Rattle.card.specs.Rows.{tie}
+use Rattle.heights.proofs.Counts.{count_is}
 use Rattle.runoff.proofs.RowLines.{widening_line, not_widened}
 use Rattle.runoff.proofs.turning.Station.widening.Goals as goal
 
@@ -15,4 +16,4 @@ pub returns : goal.returns
 returns c =
     to_z-of_z {w = w32} (record { sfits = c.height.type_inv })
     ∙ c.height.ensures
-    ∙ counted (tie c.args.axis.unit) (widening_line c.args.self c.args.axis.unit_least c.args.axis.unit_most)
+    ∙ (let line = widening_line c.args.self c.args.axis.unit_least c.args.axis.unit_most in count_is line.sized ∙ counted (tie c.args.axis.unit) line)

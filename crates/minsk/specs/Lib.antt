@@ -6,3 +6,4 @@ pub mod Accuracy
 pub mod Turning
 pub mod Climbing
 pub mod Numbers
+pub mod Reckoning

@@ -1,0 +1,3 @@
+pub mod Unmet
+pub mod WidthSizes
+pub mod Accepts

@@ -1,0 +1,92 @@
+// The section rules of the Minsk handbook's method: the check of a curve card, and the table of its heights.
+#![tactic(auto)]
+
+mod conditions;
+mod rows;
+
+ghost use Rattle.std.specs.Prelude.{◌≡◌};
+ghost use Rattle.card.specs.Reasons.{first, refusal_before};
+ghost use Rattle.card.specs.Told.{refusal_number, number_told};
+ghost use Rattle.minsk_section.specs.Widths.{widths_at};
+ghost use Rattle.minsk.specs.Refusal.{method_tests, refusal};
+ghost use Rattle.minsk.specs.Reckoning.{widths_in};
+
+use crate::conditions::{is_not_for, is_not_placed, is_too_long, is_too_steep};
+use card::{Card, Refusal, added_slope, check_after, check_before, profile_at};
+
+// How many numbers a row has in a table.
+pub const ROW_WIDTH: usize = 9;
+
+// The widths of a category, in mm: half the carriageway, the shoulder with its strip, the strip alone, and the least that a widening leaves of
+// the inner shoulder with its strip.
+#[derive(Clone, Copy, Default)]
+struct Widths {
+    half: u32,
+    shoulder: u32,
+    strip: u32,
+    least: u32,
+}
+
+// II, III and IV.
+const WIDTHS: [Widths; 3] = [
+    Widths {
+        half: 3500,
+        shoulder: 3000,
+        strip: 750,
+        least: 1500,
+    },
+    Widths {
+        half: 3500,
+        shoulder: 2500,
+        strip: 500,
+        least: 1500,
+    },
+    Widths {
+        half: 3000,
+        shoulder: 2000,
+        strip: 500,
+        least: 1000,
+    },
+];
+
+// The widths by the number of the profile: 1 is II, 2 is III, 3 is IV; any other has widths of nought.
+fn widths_at(profile: u32) -> Widths
+    ensures { widths_in result ≡ widths_at profile }
+{
+    if !(1..=3).contains(&profile) {
+        return Widths::default();
+    }
+    let i = (profile - 1) as usize;
+    WIDTHS[i]
+}
+
+// The first of a card's own reasons, 1 to 6, 36, 37, 38, 8, 9, 10, 34 or 35, where one is met.
+pub fn check_card(card: Card) -> Result<(), Refusal>
+    ensures { number_told refusal_number result ≡ refusal card }
+{
+    check_before(card)?;
+    check_section(card)?;
+    check_after(card)
+}
+
+// The reasons of this method, 36, 37, 38 and 8, of a card that those before let pass.
+fn check_section(card: Card) -> Result<(), Refusal>
+    requires { refusal_before card ≡ 0 }
+    ensures { number_told refusal_number result ≡ first (method_tests card) }
+{
+    let widths = widths_at(card.profile);
+    let added = added_slope(profile_at(card.profile), card.terrain);
+    if is_not_for(card) {
+        return Err(Refusal::Method);
+    }
+    if is_too_long(widths, card) {
+        return Err(Refusal::FirstStage);
+    }
+    if is_not_placed(card) {
+        return Err(Refusal::WideningPlace);
+    }
+    if is_too_steep(widths, added, card) {
+        return Err(Refusal::AddedSlope);
+    }
+    Ok(())
+}

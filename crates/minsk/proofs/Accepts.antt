@@ -18,7 +18,7 @@ use Rattle.minsk.specs.Rows.{row_count, row_width}
 use Rattle.minsk.specs.Refusal.{method_tests, refusal}
 use Rattle.minsk.specs.Accepted.{Sizes, AcceptedBy, AcceptedTheorem}
 use Rattle.minsk.proofs.Unmet.{For, not_for_lem, not_long, placed_lem, not_steep}
-use Rattle.minsk.proofs.WidthSizes.{WidthsSizes, width_sizes}
+use Rattle.minsk_section.proofs.WidthEntries.{WidthSizes, width_sizes}
 
 module _ (card : Card) where
   -- the reasons before, then this method's, then those after
@@ -89,7 +89,7 @@ module _ (card : Card) where
   not_refused : AcceptedBy card → refusal card ≡ 0
   not_refused a = in_order ∙ rw ((shared_rule card).before.1 a.before, none_own a, (shared_rule card).after.1 a.after)
 
-  pub widths_of : refusal card ≡ 0 → WidthsSizes (widths_at card.profile)
+  pub widths_of : refusal card ≡ 0 → WidthSizes (widths_at card.profile)
   widths_of e =
       let a = accepted e in
       width_sizes card.profile a.before.profile_least a.category

@@ -1,3 +1,5 @@
 pub mod Unmet
-pub mod WidthSizes
+pub mod HeldWidths
 pub mod Accepts
+pub mod Places
+pub mod StationSlopes

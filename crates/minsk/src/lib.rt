@@ -3,6 +3,8 @@
 
 mod conditions;
 mod rows;
+mod runoff;
+mod turning;
 
 ghost use Rattle.std.specs.Prelude.{◌≡◌};
 ghost use Rattle.card.specs.Reasons.{first, refusal_before};

@@ -1,10 +1,11 @@
 -- `minsk::widths_at` meets its contract.
 -- Assumes nothing.
-use Rattle.std.proofs.Common.{◌≡◌, ◌≤◌, ◌-◌, true, rules, sym, ◌∙◌}
-use Rattle.minsk_section.specs.Widths.{widths_table, no_widths}
+use Rattle.std.proofs.Common.{◌≡◌, true, rules, sym, ◌∙◌}
 use Rattle.card.specs.Words.{outside}
+use Rattle.minsk_section.specs.Widths.{no_widths}
+use Rattle.minsk_section.proofs.WidthEntries.{none_outside}
 use Rattle.minsk.specs.Reckoning.{widths_in}
-use Rattle.minsk.proofs.WidthSizes.{from_one, none_outside, read_table}
+use Rattle.minsk.proofs.HeldWidths.{read_widths}
 use Rattle.minsk.proofs.widths_at.Goals as goal
 
 pub returns-then-not-contains : goal.returns-then-not-contains
@@ -14,6 +15,4 @@ returns-then-not-contains c =
     none ∙ sym (none_outside _ is)
 
 pub returns : goal.returns
-returns c =
-    let least : 1 ≤ c.args.profile = search rules in
-    read_table (c.args.profile - 1) ∙ sym (from_one _ least)
+returns c = read_widths c.args.profile (search rules) (search rules)

@@ -3,3 +3,5 @@ pub mod HeldWidths
 pub mod Accepts
 pub mod Places
 pub mod StationSlopes
+pub mod ClimbingRule
+pub mod GivenNumbers

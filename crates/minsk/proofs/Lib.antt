@@ -5,3 +5,5 @@ pub mod Places
 pub mod StationSlopes
 pub mod ClimbingRule
 pub mod GivenNumbers
+pub mod Fields
+pub mod RowLines

@@ -1,16 +1,21 @@
 -- What the private functions that reckon a row ask and promise.
 -- Assumes nothing.
-use Rattle.std.specs.Prelude.{◌≡◌, ℕ, ◌+◌, ◌*◌, ◌≤◌, ◌<◌}
-use Rattle.exact.specs.Exact.{whole}
+use Rattle.std.specs.Prelude.{◌≡◌, ℕ, ◌+◌, ◌*◌, ◌≤◌, ◌<◌, ℤ, pos}
+use Rattle.exact.specs.Exact.{Exact, whole, ◌⊗◌}
 use Rattle.exact.specs.Parts.{Is}
+use Rattle.card.specs.Rows.{in_units}
+use Rattle.heights.specs.declared.axis.Axis.{Axis}
+use Rattle.heights.specs.Heights.{count_on}
 use Rattle.minsk.specs.declared.Widths.{Widths as Held}
 use Rattle.minsk.specs.declared.runoff.Stage.{Stage}
 use Rattle.minsk.specs.declared.runoff.Growth.{Growth}
 use Rattle.minsk.specs.declared.runoff.Runoff.{Runoff}
 use Rattle.minsk.specs.declared.turning.Slope.{Slope}
 use Rattle.minsk.specs.declared.turning.Slopes.{Slopes}
+use Rattle.minsk.specs.declared.rows.Sides.{Sides}
+use Rattle.minsk.specs.declared.rows.Row.{Row}
 use Rattle.minsk_section.specs.Widths.{Widths}
-use Rattle.minsk_section.specs.Lines.{Section, stage_end, wide_end, outer_slope, inner_slope, shoulder_slope, widening, Premises}
+use Rattle.minsk_section.specs.Lines.{Section, axis, stage_end, wide_end, outer_slope, inner_slope, shoulder_slope, widening, outer_edge, outer_strip, outer_brow, inner_edge, inner_strip, inner_brow, Premises}
 use Rattle.minsk.specs.Accepted.{Sizes}
 
 -- the widths as the code holds them
@@ -74,3 +79,40 @@ pub record WideIs (x : Section) (d num over : ℕ) : Type 0 where
   pub few : over ≤ 20000
   pub one : x.W ≡ 0 → over ≤ 1
   pub most : num ≤ 3500 * over
+
+-- ---- the row
+-- the line y of a section whose axis stays at 0, with the axis at a
+abbrev pub line_on : Axis → Exact → ℤ
+line_on a y = count_on a axis y
+
+-- the heights of the two sides at the station d
+unfoldable pub outer_sides : Axis → Section → ℕ → Sides
+outer_sides a x d =
+    record {
+      edge = line_on a (outer_edge x (whole d));
+      strip = line_on a (outer_strip x (whole d));
+      brow = line_on a (outer_brow x (whole d));
+    }
+
+unfoldable pub inner_sides : Axis → Section → ℕ → Sides
+inner_sides a x d =
+    record {
+      edge = line_on a (inner_edge x (whole d));
+      strip = line_on a (inner_strip x (whole d));
+      brow = line_on a (inner_brow x (whole d));
+    }
+
+-- the row at the station d, where the axis is at a, and at n units
+unfoldable pub row_on : Axis → ℤ → Section → ℕ → Row
+row_on a n x d =
+    record {
+      station = pos d;
+      widening = in_units a.unit (whole 1000 ⊗ widening x (whole d));
+      axis = n;
+      outer_edge = line_on a (outer_edge x (whole d));
+      outer_strip = line_on a (outer_strip x (whole d));
+      outer_brow = line_on a (outer_brow x (whole d));
+      inner_edge = line_on a (inner_edge x (whole d));
+      inner_strip = line_on a (inner_strip x (whole d));
+      inner_brow = line_on a (inner_brow x (whole d));
+    }

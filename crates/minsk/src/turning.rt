@@ -1,8 +1,9 @@
 // The slopes and the widening at a station, each over one denominator, in natural numbers.
-ghost use Rattle.std.specs.Prelude.{◌≡◌, ◌+◌, ◌*◌, ◌-◌, ◌≤◌, ◌<◌, max};
+ghost use Rattle.std.specs.Prelude.{◌≡◌, ◌+◌, ◌*◌, ◌-◌, ◌≤◌};
 ghost use Rattle.minsk.specs.Reckoning.{section_in, Limits, SlopeIs, SlopesAt, WideIs};
 
 use crate::runoff::{GROWS, Runoff};
+use heights::at_least;
 
 // A slope in per mille: (up - down) / over.
 #[derive(Clone, Copy)]
@@ -27,13 +28,6 @@ pub(crate) struct Station {
     pub d: u64,
     ghost limits: { Limits runoff },
     ghost within: { d ≤ runoff.clothoid },
-}
-
-// The greater of least and up - down, which may be below nought.
-pub(crate) fn at_least(least: u64, up: u64, down: u64) -> u64
-    ensures { result ≡ max least (up - down) }
-{
-    up.saturating_sub(down).max(least)
 }
 
 impl Station {

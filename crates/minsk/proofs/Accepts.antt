@@ -1,15 +1,16 @@
 -- A card is accepted exactly when each reason, turned round, holds; and then its section has these sizes.
 -- Assumes nothing.
-use mathlib.Core.Path.{◌≡◌, refl, sym, ap, ◌∙◌}
-use mathlib.Core.List.{◌++◌}
+use mathlib.Core.Path.{◌≡◌, refl}
 use Prim.Native.Nat.{◌*◌, ◌≤◌}
 use native.Mathlib.Nat.{mul-le-mul_left}
 use native.Mathlib.Omega.{arith}
 use lib.Dec.{lit<}
 use Rattle.card.specs.declared.Card.{Card}
 use Rattle.card.specs.Profile.{added_of}
-use Rattle.card.specs.Reasons.{first, tests_after, refusal_before, refusal_after}
-use Rattle.card.proofs.Tests.{passes, then, first_then, then_none, before_then, after_first}
+use Rattle.card.specs.Reasons.{first, refusal_before, refusal_after}
+use Rattle.card.proofs.Tests.{passes, then}
+use Rattle.card.proofs.InOrder.{Lists, no_number}
+use Rattle.card.proofs.InOrder as order
 use Rattle.card.proofs.Steps.{at_start, passed}
 use Rattle.card.proofs.Accepts.{shared_rule, unit_in}
 use Rattle.minsk_section.specs.Widths.{widths_at}
@@ -24,21 +25,11 @@ module _ (card : Card) where
   -- the reasons before, then this method's, then those after
   pub in_order : refusal card ≡ then (refusal_before card) (then (first (method_tests card)) (refusal_after card))
   unfolding refusal
-  in_order =
-      before_then card (method_tests card ++ tests_after card)
-      ∙ ap (then (refusal_before card)) (first_then (method_tests card) (tests_after card) refl ∙ ap (then (first (method_tests card))) (after_first card))
+  in_order = order.in_order card (method_tests card) refl
 
-  -- what each list says of an accepted card
-  record Lists : Type 0 where
-    before : refusal_before card ≡ 0
-    own : first (method_tests card) ≡ 0
-    after : refusal_after card ≡ 0
-
-  lists : refusal card ≡ 0 → Lists
-  lists e =
-      let first_two = then_none _ _ (sym in_order ∙ e) in
-      let last_two = then_none _ _ first_two.1 in
-      record { before = first_two.0; own = last_two.0; after = last_two.1 }
+  lists : refusal card ≡ 0 → Lists card (method_tests card) refl
+  unfolding refusal
+  lists = order.lists card (method_tests card) refl
 
   pub accepted : refusal card ≡ 0 → AcceptedBy card
   accepted e =
@@ -87,7 +78,10 @@ module _ (card : Card) where
       (passed past38 refl ((not_steep (added_of card) (section_of card) a.before.radius_most).1 a.added.gentle)).says
 
   not_refused : AcceptedBy card → refusal card ≡ 0
-  not_refused a = in_order ∙ rw ((shared_rule card).before.1 a.before, none_own a, (shared_rule card).after.1 a.after)
+  unfolding refusal
+  not_refused a =
+      no_number card (method_tests card) refl
+      (record { before = (shared_rule card).before.1 a.before; own = none_own a; after = (shared_rule card).after.1 a.after })
 
   pub widths_of : refusal card ≡ 0 → WidthSizes (widths_at card.profile)
   widths_of e =

@@ -7,3 +7,6 @@ pub mod ClimbingRule
 pub mod GivenNumbers
 pub mod Fields
 pub mod RowLines
+pub mod CardRows
+pub mod ClimbingTable
+pub mod Replies

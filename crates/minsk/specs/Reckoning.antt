@@ -1,9 +1,9 @@
 -- What the private functions that reckon a row ask and promise.
 -- Assumes nothing.
-use Rattle.std.specs.Prelude.{◌≡◌, ℕ, ◌+◌, ◌*◌, ◌≤◌, ◌<◌, ℤ, pos}
+use Rattle.std.specs.Prelude.{◌≡◌, List, ℕ, ◌+◌, ◌*◌, ◌≤◌, ◌<◌, ℤ, pos}
 use Rattle.exact.specs.Exact.{Exact, whole, ◌⊗◌}
 use Rattle.exact.specs.Parts.{Is}
-use Rattle.card.specs.Rows.{in_units}
+use Rattle.card.specs.Rows.{station_to, in_units}
 use Rattle.heights.specs.declared.axis.Axis.{Axis}
 use Rattle.heights.specs.Heights.{count_on}
 use Rattle.minsk.specs.declared.Widths.{Widths as Held}
@@ -17,6 +17,7 @@ use Rattle.minsk.specs.declared.rows.Row.{Row}
 use Rattle.minsk_section.specs.Widths.{Widths}
 use Rattle.minsk_section.specs.Lines.{Section, axis, stage_end, wide_end, outer_slope, inner_slope, shoulder_slope, widening, outer_edge, outer_strip, outer_brow, inner_edge, inner_strip, inner_brow, Premises}
 use Rattle.minsk.specs.Accepted.{Sizes}
+use Rattle.minsk.specs.Rows.{cells}
 
 -- the widths as the code holds them
 abbrev pub widths_in : Held → Widths
@@ -116,3 +117,7 @@ row_on a n x d =
       inner_strip = line_on a (inner_strip x (whole d));
       inner_brow = line_on a (inner_brow x (whole d));
     }
+
+-- the numbers of row i of a table with this step and end, where the axis is at a, and at n units
+abbrev pub rows_on : Axis → ℤ → Section → ℕ → ℕ → ℕ → List ℤ
+rows_on a n x end step i = cells (row_on a n x (station_to end step i))

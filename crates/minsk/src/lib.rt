@@ -6,15 +6,20 @@ mod rows;
 mod runoff;
 mod turning;
 
-ghost use Rattle.std.specs.Prelude.{◌≡◌};
+ghost use Rattle.std.specs.Prelude.{◌≡◌, length, IfOk};
 ghost use Rattle.card.specs.Reasons.{first, refusal_before};
-ghost use Rattle.card.specs.Told.{refusal_number, number_told};
+ghost use Rattle.card.specs.Told.{refusal_number, number_told, told};
 ghost use Rattle.minsk_section.specs.Widths.{widths_at};
 ghost use Rattle.minsk.specs.Refusal.{method_tests, refusal};
+ghost use Rattle.minsk.specs.Table.{reply_to, table_after};
+ghost use Rattle.minsk.specs.Climbing.{ClimbingTable};
 ghost use Rattle.minsk.specs.Reckoning.{widths_in};
 
 use crate::conditions::{is_not_for, is_not_placed, is_too_long, is_too_steep};
-use card::{Card, Refusal, added_slope, check_after, check_before, profile_at};
+use crate::rows::write_rows;
+use card::{
+    Card, Refusal, added_slope, check_after, check_before, check_room, profile_at, row_count,
+};
 
 // How many numbers a row has in a table.
 pub const ROW_WIDTH: usize = 9;
@@ -91,4 +96,19 @@ fn check_section(card: Card) -> Result<(), Refusal>
         return Err(Refusal::AddedSlope);
     }
     Ok(())
+}
+
+// Fills the lent table with the card's rows and says how many; or leaves it as it is and says why.
+pub fn fill_table(card: Card, table: &mut [i32]) -> Result<u32, Refusal>
+    ensures value { told refusal_number result ≡ reply_to card (length table.old) }
+    ensures table_after { table.new ≡ table_after card table.old }
+    ensures climbing_table { IfOk result (λ count. ClimbingTable card count table.new) }
+{
+    check_card(card)?;
+    let rows = row_count(card.clothoid, card.step);
+    let count = rows as u32;
+    let room = table.len();
+    check_room(ROW_WIDTH as u32, count, room)?;
+    write_rows(card, rows, table);
+    Ok(count)
 }

@@ -1,13 +1,17 @@
 // The rows of a table: their nine numbers, and how they are written.
-ghost use Rattle.std.specs.Prelude.{◌≡◌};
+ghost use Rattle.std.specs.Prelude.{◌≡◌, ◌++◌, ◌*◌, ◌-◌, ◌≤◌, length, drop};
 ghost use Rattle.exact.specs.Exact.{whole, ◌⊗◌};
-ghost use Rattle.card.specs.Rows.{in_units};
-ghost use Rattle.minsk_section.specs.Lines.{widening};
-ghost use Rattle.minsk.specs.Rows.{cells};
-ghost use Rattle.minsk.specs.Reckoning.{section_in, SlopesAt, WideIs, inner_sides, outer_sides, row_on};
+ghost use Rattle.card.specs.Rows.{in_units, station_to};
+ghost use Rattle.card.specs.RowsInto.{with_rows};
+ghost use Rattle.minsk_section.specs.Lines.{section_of, widening};
+ghost use Rattle.minsk.specs.Refusal.{refusal};
+ghost use Rattle.minsk.specs.Rows.{cells, row_count, row_width, rows};
+ghost use Rattle.minsk.specs.Reckoning.{section_in, Limits, SlopesAt, WideIs, inner_sides, outer_sides, row_on, rows_on};
 
 use crate::ROW_WIDTH;
+use crate::runoff::{Runoff, runoff_of};
 use crate::turning::{Slopes, Station};
+use card::{Card, Datum, station_of};
 use heights::{Axis, at_least, height};
 
 // A row: the station in mm, the others in counts of the unit.
@@ -30,6 +34,19 @@ pub(crate) struct Sides {
     pub edge: i32,
     pub strip: i32,
     pub brow: i32,
+}
+
+// An accepted card, its runoff and how many rows it has. The table stays apart, and its room is asked of it: a struct that held it would be made
+// for one call.
+#[derive(Clone, Copy)]
+struct Accepted {
+    card: Card,
+    runoff: Runoff,
+    count: usize,
+    ghost passes: { refusal card ≡ 0 },
+    ghost made: { section_in runoff ≡ section_of card },
+    ghost limits: { Limits runoff },
+    ghost counted: { count ≡ row_count card },
 }
 
 impl Station {
@@ -122,5 +139,74 @@ impl Row {
             self.inner_strip,
             self.inner_brow,
         ]
+    }
+}
+
+impl Accepted {
+    // The station of row i.
+    fn station(self, i: u32) -> Station
+        ensures runoff { result.runoff ≡ self.runoff }
+        ensures d { result.d ≡ station_to self.card.clothoid self.card.step i }
+    {
+        let d = station_of(self.card.clothoid, self.card.step, i);
+        Station {
+            runoff: self.runoff,
+            d,
+        }
+    }
+
+    // Writes the rows from `first` up to `end` of a table that has them, where the axis stands at `axis`, and at this count of units.
+    fn write_on(self, axis: Axis, number: i32, first: usize, end: usize, table: &mut [i32])
+        requires { (first ≤ end) × (end ≤ self.count) × (row_width * end ≤ length table.old) }
+        ensures { table.new ≡ with_rows row_width (rows_on axis number (section_in self.runoff) self.card.clothoid self.card.step) first (end - first) table.old }
+    {
+        for i in first..end {
+            let row = self.station(i as u32).row(axis, number);
+            let at = ROW_WIDTH * i;
+            table[at..at + ROW_WIDTH].copy_from_slice(&row.cells());
+        }
+    }
+
+    // Writes the rows of a relative card: its axis stays at 0, so that its count of units is reckoned once for a table.
+    fn write_relative(self, table: &mut [i32])
+        requires datum { self.card.datum ≡ Datum.Relative }
+        requires room { row_width * self.count ≤ length table.old }
+        ensures { table.new ≡ rows self.card ++ drop (row_width * row_count self.card) table.old }
+    {
+        let axis = Axis::still(0, u64::from(self.card.unit));
+        self.write_on(axis, axis.number(), 0, self.count, table);
+    }
+
+    // Writes the rows of an absolute card with this height and grade: its axis is worked out at every station. Each row is written by
+    // `write_on`, so that the reckoning of a row has one caller and is compiled into its loop.
+    fn write_absolute(self, height: i32, grade: i32, table: &mut [i32])
+        requires datum { self.card.datum ≡ Datum.Absolute height grade }
+        requires room { row_width * self.count ≤ length table.old }
+        ensures { table.new ≡ rows self.card ++ drop (row_width * row_count self.card) table.old }
+    {
+        let unit = u64::from(self.card.unit);
+        for i in 0..self.count {
+            let station = station_of(self.card.clothoid, self.card.step, i as u32);
+            let axis = Axis::surveyed(height, grade, station, unit);
+            self.write_on(axis, axis.number(), i, i + 1, table);
+        }
+    }
+}
+
+// Writes the rows of an accepted card into a table that has room for them.
+pub(crate) fn write_rows(card: Card, count: usize, table: &mut [i32])
+    requires passes { refusal card ≡ 0 }
+    requires count_value { (count ≡ row_count card) × (row_width * count ≤ length table.old) }
+    ensures { table.new ≡ rows card ++ drop (row_width * row_count card) table.old }
+{
+    let runoff = runoff_of(card);
+    let accepted = Accepted {
+        card,
+        runoff,
+        count,
+    };
+    match card.datum {
+        Datum::Relative => accepted.write_relative(table),
+        Datum::Absolute { height, grade } => accepted.write_absolute(height, grade, table),
     }
 }

@@ -10,3 +10,4 @@ pub mod RowLines
 pub mod CardRows
 pub mod ClimbingTable
 pub mod Replies
+pub mod ReadingsComputed

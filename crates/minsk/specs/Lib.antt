@@ -7,3 +7,5 @@ pub mod Turning
 pub mod Climbing
 pub mod Numbers
 pub mod Reckoning
+pub mod Readings
+pub mod Boundaries

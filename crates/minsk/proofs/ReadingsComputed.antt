@@ -1,4 +1,4 @@
--- The rows that were reckoned by hand, and the reasons at their edges, computed from the definitions.
+-- Rows that were reckoned apart, and the reasons at their edges, computed from the definitions.
 -- Assumes nothing.
 use mathlib.Core.Path.{refl}
 use Rattle.exact.specs.Rounding.{rounded}

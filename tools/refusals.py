@@ -4,9 +4,11 @@ The printer says which number a card gets. Nothing is decided here: of that
 number the words are found, with the figures of documents 01 and 02.
 """
 import re
+from math import ceil, floor, gcd
 from pathlib import Path
 
 from reckon import PROFILES, least_length
+from reckon_minsk import CROWN, WIDTHS, first_stage, joint
 
 HEADER = Path(__file__).resolve().parent.parent / "include" / "pippinterm.h"
 # The trade's word of each number, as the header has it.
@@ -154,6 +156,45 @@ REASONS = {
 }
 
 
+# ---- the reasons of the Minsk handbook's method ----
+
+def method_words(card):
+    """36: a full slope of 20, a radius of 2000, or profile 4 or 5."""
+    if card[0] not in WIDTHS:
+        return f"{of_profile(card)} is not of the handbook's method, which has category II, III and IV"
+    if card[4] == CROWN:
+        return f"v {CROWN} per mille is the crown's, and the handbook's method is for full slopes above it"
+    return f"R {card[2]} m is the greatest, and the handbook's method is for smaller ones"
+
+
+def first_stage_words(card):
+    """37: a first stage longer than L x R / 2000."""
+    stage = first_stage(WIDTHS[card[0]][0])
+    return (f"the first stage of {stage} mm on {of_profile(card)} is longer than L x R / 2000, which is {floor(joint(card))} mm here; "
+            f"with R {card[2]} m, L must be {ceil(stage * 2000 / card[2])} mm at least")
+
+
+def widening_place_words(card):
+    """38: W above 0 where R is above 500 or L x R / 500 is no whole mm."""
+    if card[2] > 500:
+        return f"W {card[5]} mm is above 0, but R {card[2]} m is above 500 m, where W must be 0"
+    return (f"W {card[5]} mm is above 0, but the place where it is full, L x R / 500, is no whole mm; "
+            f"with R {card[2]} m, L must be a whole number of {500 // gcd(card[2], 500)} mm")
+
+
+def second_stage_words(card):
+    """8: h x (v - 20) above added slope x (L - L x R / 2000). The bound is told as a length, and as a slope where one is left."""
+    half, added = WIDTHS[card[0]][0], PROFILES[card[0]][5 + card[1]]
+    left, slope = card[3] - joint(card), card[4]
+    gentle = CROWN + floor(added * left / half)
+    words = (f"the {floor(left)} mm from L x R / 2000 to L are shorter than the {ceil(half * (slope - CROWN) / added)} mm that v {slope} per mille "
+             f"needs on {of_profile(card)}, {TERRAINS[card[1]]} terrain, where the added slope is {added} per mille")
+    return words + (f"; with this R and L, v may be {gentle} per mille at most" if gentle > CROWN else "")
+
+
+HANDBOOK_REASONS = {**REASONS, 8: second_stage_words, 36: method_words, 37: first_stage_words, 38: widening_place_words}
+
+
 def card_words(card):
     """An accepted card in words, so that who wrote it sees what it says."""
     unit = "cm" if card[7] == 10 else "mm"
@@ -162,7 +203,7 @@ def card_words(card):
     return words + (f", the axis at {card[8]} mm with a grade of {card[9]} per mille" if card[8:] else "")
 
 
-def refused_words(number, card):
-    """What is said of a card that the printer refuses with this number."""
+def refused_words(number, card, reasons=REASONS):
+    """What is said of a card that is refused with this number: by the printer, or by the method that has these reasons."""
     said = f"refused with {named(number)}"
-    return f"{said}: {REASONS[number](card)}" if number in REASONS else said
+    return f"{said}: {reasons[number](card)}" if number in reasons else said

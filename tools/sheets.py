@@ -1,22 +1,31 @@
 """Sheets and books as the tools read them.
 
 A sheet is what the printer has printed; it alone says what is accepted and
-which numbers a row has. The book beside it has the cards.
+which numbers a row has. The book beside it has the cards. A sheet by the Minsk
+handbook's method, as examples/minsk.c prints it, has nine numbers a row; beside
+it is the file of its cards, each a name and eleven numbers.
 """
 import argparse
 import os
 import re
 import signal
 import sys
+from collections import namedtuple
 from itertools import zip_longest
 
 import reckon
-from refusals import named
+import reckon_minsk
+from refusals import HANDBOOK_REASONS, REASONS, named
 
 HEAD = re.compile(r"([A-Z0-9]{1,8}) (refused )?([0-9]{1,4})")
-ROW = re.compile(r"-?[0-9]{1,10}( -?[0-9]{1,10}){6}")
 BOOK = re.compile(r"book ([0-9]{1,2}) line ([0-9]{1,3})")
 CARD = re.compile(r"[0-9]{1,7}( [0-9]{1,7}){7}( -?[0-9]{1,7} -?[0-9]{1,7})?")
+LISTED = re.compile(r"[A-Z0-9]{1,8}( -?[0-9]{1,10}){11}")
+
+# A method: the form of its rows, which number refuses a card, a card's row at a station, and the words of its reasons.
+Method = namedtuple("Method", "form refusal row reasons")
+ALBUM = Method(re.compile(r"-?[0-9]{1,10}( -?[0-9]{1,10}){6}"), reckon.refusal, reckon.row, REASONS)
+HANDBOOK = Method(re.compile(r"-?[0-9]{1,10}( -?[0-9]{1,10}){8}"), reckon_minsk.refusal, reckon_minsk.row, HANDBOOK_REASONS)
 
 # What a tool ends with.
 ALL_ACCEPTED, SOME_REFUSED, MISUSED = 0, 1, 2
@@ -53,8 +62,8 @@ def lines_of(data, what):
     return text[:-1].split("\n")
 
 
-def read_sheet(data):
-    """Name to rows, or to Refused, in the sheet's order; RefusedBook for the line of a refused book."""
+def read_sheet(data, form=ALBUM.form):
+    """Name to rows of this form, or to Refused, in the sheet's order; RefusedBook for the line of a refused book."""
     lines = lines_of(data, "sheet")
     refused = BOOK.fullmatch(lines[0])
     if refused and len(lines) == 1:
@@ -63,7 +72,7 @@ def read_sheet(data):
     while at < len(lines):
         head = HEAD.fullmatch(lines[at])
         if not head:
-            more = "a row too many" if ROW.fullmatch(lines[at]) else "not a curve's first line"
+            more = "a row too many" if form.fullmatch(lines[at]) else "not a curve's first line"
             raise Fault(f"sheet line {at + 1}: {more}")
         name, count = head[1], int(head[3])
         at += 1
@@ -72,7 +81,7 @@ def read_sheet(data):
         if head[2]:
             curves[name] = Refused(count)
             continue
-        rows = [row.split() for row in lines[at:at + count] if ROW.fullmatch(row)]
+        rows = [row.split() for row in lines[at:at + count] if form.fullmatch(row)]
         if len(rows) != count:
             raise Fault(f"sheet line {at}: {name} says {count} rows, {len(rows)} good ones follow")
         curves[name] = [list(map(int, row)) for row in rows]
@@ -97,27 +106,43 @@ def read_cards(data, path):
     return cards
 
 
-def check_fit(rows, card, name):
+def is_listed(data):
+    """Whether a file is one of cards by the handbook's method: no book begins with a name and eleven numbers."""
+    return bool(LISTED.fullmatch(data.split(b"\n")[0].decode("ascii", "replace")))
+
+
+def read_listed(data, path):
+    """Name to card, as a book would have it, in the order of a file of cards."""
+    cards = {}
+    for at, line in enumerate(lines_of(data, path), 1):
+        name, *numbers = line.split(" ")
+        if not LISTED.fullmatch(line) or name in cards:
+            raise Fault(f"{path} line {at}: not a name and eleven numbers, or a name that stands there twice")
+        cards[name] = reckon_minsk.body_of([int(number) for number in numbers])
+    return cards
+
+
+def check_fit(rows, card, name, method):
     """The rows must stand where the card puts them, and the last be the card's: its unit does not stand in the sheet."""
     length, step = card[3], card[6]
-    if reckon.refusal(card):
+    if method.refusal(card):
         raise Fault(f"{name}: a sheet refuses the book's card, but this one has rows")
     due = (length - 1) // step + 2
     if len(rows) != due:
         raise Fault(f"{name}: the sheet has {len(rows)} rows, the book's card asks for {due}")
     if any(row[0] != min(i * step, length) for i, row in enumerate(rows)):
         raise Fault(f"{name}: the sheet's stations are not those of the book's card")
-    if rows[-1] != reckon.row(card, length):
+    if rows[-1] != method.row(card, length):
         raise Fault(f"{name}: the sheet's last row is not that of the book's card; print the sheet of this book anew")
 
 
-def check_refusal(refused, card, name):
+def check_refusal(refused, card, name, method):
     """The number of a refused curve must be its card's, else the words for it would speak of another card."""
-    if reckon.refusal(card) != refused.number:
+    if method.refusal(card) != refused.number:
         raise Fault(f"{name}: the sheet has it refused with {named(refused.number)}, which the book's card is not")
 
 
-def check_curves(curves, cards, path):
+def check_curves(curves, cards, path, method):
     """The sheet must be the book's: its curves in the book's order, each as its card has it."""
     for place, (printed, due) in enumerate(zip_longest(curves, cards), 1):
         if printed != due:
@@ -125,7 +150,7 @@ def check_curves(curves, cards, path):
                         f"{due or 'missing'} in the book")
     for name, printed in curves.items():
         check = check_refusal if isinstance(printed, Refused) else check_fit
-        check(printed, cards[name], name)
+        check(printed, cards[name], name, method)
 
 
 def read_file(path):
@@ -149,21 +174,27 @@ def read_input():
         raise Fault(f"standard input cannot be read: {fault.strerror}") from fault
 
 
+def tell_refused(refused, book, path):
+    """Says of a refused book what its sheet says, where the sheet is this book's."""
+    number, line = refused.number, refused.line
+    if is_listed(book) or reckon.sheet(book) != [f"book {number} line {line}"]:
+        raise Fault(f"the sheet is that of a refused book, and {path} is another") from refused
+    place = f", line {line}" if line else ""
+    raise Fault(f"the book is refused with {named(number)}{place}: bin/check-book {path} says what is wrong",
+                SOME_REFUSED) from refused
+
+
 def read_sheet_of(path):
-    """The curves of the sheet on standard input and the cards of its book, by name, both in the same order."""
+    """The curves of the sheet on standard input, the cards of its book or its file of cards, by name, in one order; and their method."""
     book = read_file(path)
+    method = HANDBOOK if is_listed(book) else ALBUM
     try:
-        curves = read_sheet(read_input())
+        curves = read_sheet(read_input(), method.form)
     except RefusedBook as refused:
-        number, line = refused.number, refused.line
-        if reckon.sheet(book) != [f"book {number} line {line}"]:
-            raise Fault(f"the sheet is that of a refused book, and {path} is another") from refused
-        place = f", line {line}" if line else ""
-        raise Fault(f"the book is refused with {named(number)}{place}: bin/check-book {path} says what is wrong",
-                    SOME_REFUSED) from refused
-    cards = read_cards(book, path)
-    check_curves(curves, cards, path)
-    return curves, cards
+        tell_refused(refused, book, path)
+    cards = read_listed(book, path) if method is HANDBOOK else read_cards(book, path)
+    check_curves(curves, cards, path, method)
+    return curves, cards, method
 
 
 def put_out(text):

@@ -1,8 +1,7 @@
 #!/usr/bin/env python3
-"""Makes the cards that the calls of the Minsk handbook's method are held to, and those with a figure made wrong in each.
+"""Makes the cards that the calls of the Minsk handbook's method are held to; tools/minsk_wrong.py those with a figure made wrong in each.
 
-    python3 tools/minsk_data.py right > runs/minsk.text
-    python3 tools/minsk_data.py wrong > runs/wrong/minsk.text
+    python3 tools/minsk_data.py > runs/minsk.text
 
 runs/minsk.c says what the lines are. A card is reckoned by tools/reckon_minsk.py, from Slip 7 of document 02, whose words are quoted; the
 figures of the handbook's examples are those of its scan, from tools/minsk_handbook.py. Nothing is shared with the library. A card has the
@@ -15,7 +14,7 @@ from fractions import Fraction
 import minsk_handbook
 import reckon
 import reckon_minsk
-from day_data import LEAST, MOST, RELATIVE, altered, changed, in_cm, on, place_of
+from day_data import LEAST, MOST, RELATIVE, changed, in_cm, on
 from reckon_minsk import ROW_NUMBERS, single
 
 ENOUGH = 2709
@@ -57,7 +56,7 @@ def run(card, room=ENOUGH, shown=None, null=False):
     check = number if number != 11 else 0
     lines = [begun(card, room, null), ["n", check, number, len(rows)]]
     lines += [["r", i, *row] for i, row in enumerate(rows) if shown is None or i in shown]
-    # "table numbers after the last row are untouched ... A refused card gives its number and count 0, and the table is untouched."
+    # Document 01: "table numbers after the last row are untouched. A refused card gives its number and count 0, and the table is untouched."
     return lines + [["k", ROW_NUMBERS * len(rows)]]
 
 
@@ -140,6 +139,9 @@ def stage_cards():
         *refused(37, *[card if card[5] == 0 else changed(card, 5, 0) for card in shorter]), *refused(37, *by_one)]
     yield "L 300 m, the least radius that passes, and 1 m less.", [
         *refused(0, *by_radius), *refused(37, *[changed(card, 2, card[2] - 1) for card in by_radius])]
+    yield "L x R as near to 56,000,000 and 48,000,000 as it can be, below and above.", [
+        *refused(37, rowed((1, 1, 199, 281407, 60, 0)), rowed((2, 1, 199, 281407, 60, 0)), rowed((3, 2, 279, 172043, 60, 0))),
+        *refused(0, rowed((1, 1, 201, 278607, 60, 0)), rowed((2, 2, 201, 278607, 60, 0)), rowed((3, 1, 229, 209607, 60, 0)))]
     # "Rounding the stage joint to a whole millimetre" is one of document 01's blunders.
     yield "Joints on no whole millimetre, rows on both sides of them, and rows on the joint.", runs(
         [rowed((1, 1, 599, 140001, 50, 0), 1750), rowed((2, 2, 333, 180001, 45, 0), 10000), rowed((3, 1, 701, 120007, 40, 0), 14000),
@@ -176,9 +178,9 @@ def slope_cards():
     yield "8 past its edge: 1 mm of clothoid less, or 1 per mille more where 5 and 4 let it pass.", refused(
         8, *[rowed(changed(card, 3, card[3] - 1)) for card, shorter in edges if shorter],
         *[rowed(changed(card, 4, card[4] + 1)) for card, _ in edges if card[4] < 60])
-    # By 503-0-45, 8 would be h x (p + v) above added slope x L.
-    yield "8: gentle by 503-0-45, whose stage is the whole clothoid; and steep by that method, but not by this one.", [
-        *refused(8, rowed((1, 1, 1999, 300000, 21, 0)), rowed((2, 2, 1990, 200000, 40, 0))), *refused(0, rowed((1, 1, 1000, 120000, 60, 0)))]
+    # By 503-0-45, 8 would be h x (p + v) above added slope x L, which no card meets that passes 37.
+    yield "8: cards that are gentle by 503-0-45, whose stages have the whole clothoid.", refused(
+        8, rowed((1, 1, 1999, 300000, 21, 0)), rowed((2, 2, 1990, 200000, 40, 0)))
 
 
 def reason_cards():
@@ -281,284 +283,13 @@ def other_cards():
         1, (LEAST,) * 11, (MOST,) * 11, (-1,) * 11, (-1,) * 8 + RELATIVE, (0,) * 11)
 
 
-# ---- cards with one figure made wrong ----
-
-class Changed:
-    """Lets other functions or figures stand in a module for a while: a wrong program."""
-
-    def __init__(self, module, **names):
-        self.module, self.names, self.kept = module, names, {name: getattr(module, name) for name in names}
-
-    def __enter__(self):
-        for name, other in self.names.items():
-            setattr(self.module, name, other)
-
-    def __exit__(self, *_):
-        for name, kept in self.kept.items():
-            setattr(self.module, name, kept)
-
-
-def wrong_number(card, row, column, figure):
-    """The card with another figure in this row and column, which count from 0."""
-    return altered(run(card, shown=(row,)), 2, 2 + column, figure)
-
-
-def wrong_reply(number, *cards, room=ENOUGH):
-    """Cards with another number for both calls, one at a time, as a program gives it whose reasons are others."""
-    for card in cards:
-        lines = run(card, room, shown=(0,))
-        yield altered(lines, 1, 1, number)
-        yield altered(lines, 1, 2, number)
-
-
-def wrong_rows(card, **names):
-    """For each column in which a wrong program differs the first figure that does; it must differ in one."""
-    body = reckon_minsk.body_of(card)
-    right = reckon_minsk.rows_of(body)
-    with Changed(reckon if "rounded" in names else reckon_minsk, **names):
-        wrong = reckon_minsk.rows_of(body)
-    found = {}
-    for row, (good, bad) in enumerate(zip(right, wrong, strict=True)):
-        for column in (column for column in range(ROW_NUMBERS) if good[column] != bad[column]):
-            found.setdefault(column, (row, bad[column]))
-    if not found:
-        sys.exit(f"{card}, {names}: does not differ")
-    for column in sorted(found):
-        row, figure = found[column]
-        yield wrong_number(card, row, column, figure)
-
-
-def of_lines(change):
-    """Lines that differ from the right ones: what is put in the place of some of them is made of them, the slopes and the widths."""
-    def lines_at(card, d, right=reckon_minsk.lines_at):
-        lines = right(card, d)
-        outer = reckon_minsk.outer_slope(card, d)
-        for column, line in change(card, lines, outer, max(outer, Fraction(20)), *reckon_minsk.WIDTHS[card[0]]).items():
-            lines[column - 1] = line
-        return lines
-    return lines_at
-
-
-def shoulder(card, lines, slope, width):
-    """The inner brow where the shoulder beyond the strip has this slope and this width."""
-    return {8: lines[6] - width * slope}
-
-
-def strip_at_40(card, lines, outer, inner, h, c, s, m):
-    edge, beyond = lines[5], max(m, c - lines[0]) - s
-    strip = edge - s * max(inner, 40)
-    return {7: strip, 8: strip - beyond * max(inner, 40)}
-
-
-def outer_at_40(card, lines, outer, inner, h, c, s, m):
-    """The outer shoulder beyond the strip falls at 40, as on a straight, until the lane is no longer crowned."""
-    return {5: lines[3] - (c - s) * 40} if outer < 0 else {}
-
-
-WRONG_LINES = (
-    ("The inner strip at 40 per mille too.", SMALL, strip_at_40),
-    ("The outer shoulder at 40 per mille where the lane falls outwards.", SMALL, outer_at_40),
-    ("The handbook's inner shoulder, which keeps 40 per mille.", SMALL, lambda card, lines, outer, inner, h, c, s, m:
-     shoulder(card, lines, 40, max(m, c - lines[0]) - s)),
-    ("The inner shoulder at the inner slope from the start.", SMALL, lambda card, lines, outer, inner, h, c, s, m:
-     shoulder(card, lines, inner, max(m, c - lines[0]) - s)),
-    ("The inner shoulder keeps its width beside the widening.", SMALL, lambda card, lines, outer, inner, h, c, s, m:
-     shoulder(card, lines, max(inner, 40), c - s)),
-    ("The least shoulder forgotten, or counted without the strip.", changed(SMALL, 5, 1100), lambda card, lines, outer, inner, h, c, s, m:
-     shoulder(card, lines, max(inner, 40), c - lines[0] - s)),
-    ("The least shoulder forgotten, or counted without the strip.", changed(SMALL, 5, 1100), lambda card, lines, outer, inner, h, c, s, m:
-     shoulder(card, lines, max(inner, 40), max(m, c - lines[0] - s))),
-    ("The shoulder beside the strip, and not with it.", SMALL, lambda card, lines, outer, inner, h, c, s, m:
-     {5: lines[3] + c * outer, **shoulder(card, lines, max(inner, 40), max(m, c - lines[0]))}),
-    ("The inner lane turns in the first stage, with the outer lane's slope without its sign.", SMALL,
-     lambda card, lines, outer, inner, h, c, s, m:
-     {6: lines[1] - (h + lines[0]) * abs(outer), 7: lines[1] - (h + s + lines[0]) * abs(outer), 8: lines[1] - (h + c) * abs(outer) - 20} if outer < 20 else {}),
-    ("The widening does not move the inner edge; it moves the edge and not the strip.", SMALL, lambda card, lines, outer, inner, h, c, s, m:
-     {6: lines[1] - h * inner}),
-    ("The widening does not move the inner edge; it moves the edge and not the strip.", SMALL, lambda card, lines, outer, inner, h, c, s, m:
-     {7: lines[6] + lines[0] * inner, 8: lines[7] + lines[0] * inner}),
-    ("Columns exchanged: inner and outer lines, strip and brow, the columns of a row of seven.", SMALL,
-     lambda card, lines, *_: {3: lines[5], 4: lines[6], 5: lines[7], 6: lines[2], 7: lines[3], 8: lines[4]}),
-    ("Columns exchanged: inner and outer lines, strip and brow, the columns of a row of seven.", SMALL, lambda card, lines, *_:
-     {4: lines[4], 5: lines[3]}),
-    ("Columns exchanged: inner and outer lines, strip and brow, the columns of a row of seven.", SMALL, lambda card, lines, *_:
-     {7: lines[7], 8: lines[6]}),
-    ("Columns exchanged: inner and outer lines, strip and brow, the columns of a row of seven.", SMALL, lambda card, lines, *_:
-     {1: Fraction(lines[1]) / 1000, 2: lines[0] * 1000}),
-    ("The other lines lie about nought, and not about the axis.", RAISED, lambda card, lines, *_:
-     {column: lines[column - 1] - lines[1] for column in (3, 4, 5, 6, 7, 8)}),
-)
-
-
-def wide(card, d, start, length):
-    """A widening that grows in a straight line over this length from this station."""
-    return card[5] * min(max(Fraction(d - start) / length, Fraction(0)), Fraction(1))
-
-
-def place(card):
-    return Fraction(card[3] * card[2], 500)
-
-
-WRONG_WIDENINGS = (
-    ("The widening starts at L x R / 500.", lambda card, d: wide(card, d, place(card), 20000)),
-    ("It grows over the whole clothoid, as by 503-0-45; from the first stage's end; up to the clothoid's end.",
-     lambda card, d: wide(card, d, 0, card[3])),
-    ("It grows over the whole clothoid, as by 503-0-45; from the first stage's end; up to the clothoid's end.",
-     lambda card, d: wide(card, d, reckon_minsk.joint(card), place(card) - reckon_minsk.joint(card))),
-    ("It grows over the whole clothoid, as by 503-0-45; from the first stage's end; up to the clothoid's end.",
-     lambda card, d: wide(card, d, card[3] - 20000, 20000)),
-    ("It is there at once, from where it should start or from where it should be full.", lambda card, d: wide(card, d, place(card) - 20000, Fraction(1, 9))),
-    ("It is there at once, from where it should start or from where it should be full.", lambda card, d: wide(card, d, place(card) - Fraction(1, 9), Fraction(1, 9))),
-    ("It goes on growing past L x R / 500.", lambda card, d: card[5] * max(Fraction(d) - place(card) + 20000, Fraction(0)) / 20000),
-    ("It ends at L x R / 500.", lambda card, d: Fraction(0) if d > place(card) else wide(card, d, place(card) - 20000, 20000)),
-)
-GROWING = changed(SMALL, 6, 5000)
-
-
-def turned(card, d, start, end, first, last):
-    """A slope that goes in a straight line from the first to the last."""
-    return first + (last - first) * (d - start) / (end - start)
-
-
-def at_3(card, d, right=reckon_minsk.outer_slope):
-    """The outer edge climbs at 3 permille, from the same start."""
-    h, start = reckon_minsk.WIDTHS[card[0]][0], reckon_minsk.joint(card) - 8 * reckon_minsk.WIDTHS[card[0]][0]
-    return min(-20 + Fraction(3) * (d - start) / h, right(card, d)) if d > start else Fraction(-20)
-
-
-WRONG_SLOPES = (
-    ("One stage, from -20 at the start to full slope; the outer edge climbs at 3 per mille.", lambda card, d:
-     turned(card, Fraction(d), 0, card[3], -20, card[4])),
-    ("One stage, from -20 at the start to full slope; the outer edge climbs at 3 per mille.", at_3),
-    ("The first stage from the start of the clothoid to its end at L x R / 2000.", lambda card, d, right=reckon_minsk.outer_slope:
-     turned(card, Fraction(d), 0, reckon_minsk.joint(card), -20, 20) if d < reckon_minsk.joint(card) else right(card, d)),
-    ("The second stage from 0 at its start.", lambda card, d, right=reckon_minsk.outer_slope:
-     turned(card, Fraction(d), reckon_minsk.joint(card), card[3], 0, card[4]) if d > reckon_minsk.joint(card) else right(card, d)),
-)
-
-
-def wrong_cards():
-    """What wrong programs would give, and the cards with one such figure each."""
-    yield "A whole table: each figure one too high.", list(one_up(run(SMALL)))
-    for shown, card, change in WRONG_LINES:
-        yield shown, list(wrong_rows(card, lines_at=of_lines(change)))
-    for shown, other in WRONG_WIDENINGS:
-        yield shown, list(wrong_rows(GROWING, widening_at=other))
-    for shown, other in WRONG_SLOPES:
-        yield shown, list(wrong_rows(changed(SMALL, 6, 2000), outer_slope=other))
-    yield from wrong_figures()
-    yield from wrong_roundings()
-    yield from wrong_reasons()
-    yield from wrong_room()
-
-
-def one_up(lines):
-    """A card for each figure, which is one too high in it."""
-    first = {"n": 1, "r": 2, "f": 3, "k": 1}
-    for at, line in enumerate(lines):
-        for number in range(first.get(line[0], len(line)), len(line)):
-            yield altered(lines, at, number, line[number] + 1)
-
-
-def wrong_figures():
-    """Figures of the other method, or of the other profile, in the handbook's place."""
-    close = changed(SMALL, 6, 2000)
-    by_old = {1: (3750, 3750, 750, 1500), 2: (3500, 2500, 500, 1500), 3: (3000, 2000, 500, 1000)}
-    yield "The other method's half and shoulder for II: 3750.", [
-        *wrong_rows(II, WIDTHS={1: (3750, 3000, 750, 1500)}), *wrong_rows(II, WIDTHS={1: (3500, 3750, 750, 1500)}),
-        *wrong_rows(II, WIDTHS=by_old)]
-    yield "Another profile's strip, and another's least shoulder.", [
-        *wrong_rows(II, WIDTHS={1: (3500, 3000, 500, 1500)}), *wrong_rows(III, WIDTHS={2: (3500, 2500, 750, 1500)}),
-        *wrong_rows(changed(SMALL, 5, 1200), WIDTHS={3: (3000, 2000, 500, 1500)}),
-        *wrong_rows(changed(III, 5, 1400), WIDTHS={2: (3500, 2500, 500, 1000)})]
-    yield "The shoulder's slope of 503-0-45 for IV, 50; a crown of 30.", [
-        *wrong_rows(SMALL, SHOULDER=50), *wrong_rows(changed(close, 3, 170000), CROWN=30)]
-    yield "The first stage half as long; a joint at L x R / 1000; one rounded to a whole mm; one that starts where it should end.", [
-        *wrong_rows(close, first_stage=lambda h: Fraction(h * 20, 5)),
-        *wrong_rows(close, joint=lambda card: Fraction(card[3] * card[2], 1000)),
-        *wrong_rows(rowed((3, 1, 401, 299999, 60, 0), 1001), joint=lambda card: Fraction(card[3] * card[2] // 2000)),
-        *wrong_rows(close, joint=lambda card: Fraction(card[3] * card[2], 2000) + 24000)]
-    yield "The axis at the height of 503-0-45's; the grade lost, its sign, the height lost, the grade times the row.", [
-        *wrong_rows(SMALL, axis_at=lambda card, d: Fraction(160000)),
-        *wrong_rows(RAISED, axis_at=lambda card, d: Fraction(1000 * card[8])),
-        *wrong_rows(RAISED, axis_at=lambda card, d: Fraction(1000 * card[8] - card[9] * d)),
-        *wrong_rows(RAISED, axis_at=lambda card, d: Fraction(card[9] * d)),
-        *wrong_rows(RAISED, axis_at=lambda card, d: Fraction(1000 * card[8] + card[9] * d // card[6]))]
-
-
-def wrong_roundings():
-    """Halfway by the other unit's rule, cut toward nought, or the sum rounded twice."""
-    in_mm, low = on(IN_MM, 0, 1), on(IN_MM, -100000, -3)
-    in_cm_high, in_cm_low = on(IN_CM, 9000000, -2), on(IN_CM, -100000, 2)
-
-    def lower(length, unit):
-        return -((unit - 2 * length) // (2 * unit))
-
-    def higher(length, unit):
-        return (2 * length + unit) // (2 * unit)
-
-    def away(length, unit):
-        return higher(length, unit) if length > 0 else lower(length, unit)
-
-    def cut(length, unit):
-        return int(length / unit)
-
-    yield "Halfway in mm to the lower number, as it was before Slip 6, and away from nought.", [
-        line for card in (in_mm, low) for line in wrong_rows(card, rounded=lower)] + list(wrong_rows(low, rounded=away))
-    yield "Halfway in cm to the higher number, and away from nought.", [
-        line for card in (in_cm_high, in_cm_low) for line in wrong_rows(card, rounded=higher)] + list(
-            wrong_rows(in_cm_high, rounded=away))
-    yield "Cut toward nought; rounded down.", [
-        *wrong_rows(changed(SMALL, 6, 5000), rounded=cut),
-        *wrong_rows(changed(SMALL, 6, 5000), rounded=lambda length, unit: length // unit)]
-    whole = of_lines(lambda card, lines, *_: {column: 1000 * reckon.rounded(Fraction(lines[1], 1000), 1) + lines[column - 1] - lines[1]
-                                              for column in range(3, 9)})
-    yield "The axis rounded apart from the sum.", list(wrong_rows(on(changed(GROWING, 6, 1500), 7, 1), lines_at=whole))
-
-
-def wrong_reasons():
-    """Numbers that programs with other reasons give."""
-    whole, fraction = rowed((3, 1, 400, 140000, 40, 1)), rowed((3, 1, 400, 140001, 40, 1))
-    yield "36 not given, with its rows or none; 5 or 1 in its place; 36 for profile 3 and for R 1999.", [
-        *wrong_reply(0, changed(SMALL, 4, 20), changed(SMALL, 2, 2000, 5, 0), rowed((4, 1, 400, 140000, 35, 500))),
-        *wrong_reply(5, changed(SMALL, 4, 20)), *wrong_reply(1, rowed((4, 1, 400, 140000, 35, 500))), *wrong_reply(8, changed(SMALL, 2, 2000, 5, 0)),
-        *wrong_reply(36, rowed((4, 1, 400, 140000, 25, 500)), SMALL, rowed((3, 2, 1999, 300000, 21, 0)))]
-    yield "37 not given where the stage is 1 mm too long, given where it is exact, or with II's length for IV; 38 before it, 36 after it.", [
-        *wrong_reply(0, rowed((1, 1, 250, 223992, 60, 0)), rowed((3, 1, 400, 119999, 30, 0))), *wrong_reply(37, *[rowed(card) for card in EXACT_STAGE]),
-        *wrong_reply(38, rowed((1, 1, 400, 100001, 50, 1))), *wrong_reply(37, rowed((1, 1, 400, 100000, 20, 1))),
-        *wrong_reply(7, rowed((1, 1, 400, 100000, 50, 0)))]
-    yield "38 not given at R 501 or for a fraction; given without a widening, at R 500, or where L x R / 500 is whole; 6 in its place.", [
-        *wrong_reply(0, rowed((1, 1, 501, 140000, 50, 1)), fraction), *wrong_reply(38, changed(fraction, 5, 0), whole, rowed((1, 1, 500, 140000, 50, 400))),
-        *wrong_reply(6, rowed((1, 1, 501, 140000, 50, 1))), *wrong_reply(38, changed(SMALL, 2, 600, 5, 0))]
-    yield "8 by 503-0-45, h x (p + v) above added slope x L; not given, given at its edge, and with another half.", [
-        *wrong_reply(0, rowed((1, 1, 1999, 300000, 21, 0)), rowed((1, 1, 1600, 139999, 60, 0))), *wrong_reply(8, rowed((1, 1, 1600, 140000, 60, 0))),
-        *wrong_reply(8, rowed((3, 2, 1999, 300000, 21, 0)))]
-    yield "A number for the narrow shoulder, 7; 9, 10, 34 and 35 not given, or in another order; 11 before them.", [
-        *wrong_reply(7, changed(SMALL, 5, 1100)), *wrong_reply(0, changed(SMALL, 6, 999), changed(SMALL, 7, 5), on(SMALL, 9000001, 0), on(SMALL, 0, 81)),
-        *wrong_reply(10, changed(SMALL, 6, 0, 7, 5)), *wrong_reply(35, on(SMALL, 9000001, 81)), *wrong_reply(11, on(SMALL, 0, 81), room=0)]
-
-
-def wrong_room():
-    """Tables of seven or eleven numbers a row, other counts, and tables that are written beside their rows."""
-    rows = len(single(SMALL, ENOUGH)[1])
-    room = ROW_NUMBERS * rows
-    few, exact, refused_card = run(SMALL, room - 1), run(SMALL, room, shown=(0,)), run(changed(SMALL, 4, 20))
-    seven, eleven = run(SMALL, 7 * rows), run(SMALL, 10 * rows, shown=(0,))
-    yield "11 for seven numbers a row, which passes, or for eleven, which is refused; for one number too few; the check that gives 11.", [
-        altered(seven, 1, 2, 0), altered(eleven, 1, 2, 11), altered(few, 1, 2, 0), altered(few, 1, 1, 11), altered(exact, 1, 2, 11)]
-    yield "The count of numbers, of a row less, of one more, of a refused card.", [
-        altered(exact, 1, 3, room), altered(exact, 1, 3, rows - 1), altered(exact, 1, 3, rows + 1), altered(few, 1, 3, rows), altered(refused_card, 1, 3, rows)]
-    yield "The table written past its rows, up to its end, before its start, of a refused card; cleared on a refusal.", [
-        altered(run(SMALL, ENOUGH, shown=(0,)), 3, 1, ENOUGH), altered(exact, 3, 1, room + 1), altered(exact, 3, 1, -1),
-        altered(exact, 3, 1, 7 * rows), altered(few, 2, 1, room - 1), altered(refused_card, 2, 1, room)]
-
-
-def main():
-    for shown, cards in {"right": right_cards, "wrong": wrong_cards}[sys.argv[1]]():
+def put_out(groups):
+    """Prints what is shown, after #, and the lines of its cards."""
+    for shown, cards in groups:
         print("# " + shown)
         for line in itertools.chain.from_iterable(cards):
             print(*line)
 
 
 if __name__ == "__main__":
-    main()
+    put_out(right_cards())

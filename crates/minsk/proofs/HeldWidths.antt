@@ -5,7 +5,7 @@ use mathlib.Core.List.{[], ◌∷◌}
 use Prim.Native.Nat.{ℕ, zero, suc, ◌-◌, ◌≤◌}
 use native.Mathlib.Omega.{arith}
 use lib.ListN.{get_or}
-use Rattle.minsk.specs.declared.Widths.{Widths as Held}
+use Rattle.minsk.specs.declared.widths.Widths.{Widths as Held}
 use Rattle.minsk.specs.Reckoning.{widths_in}
 use Rattle.minsk_section.specs.Widths.{widths_table, widths_at}
 

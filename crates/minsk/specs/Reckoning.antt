@@ -6,7 +6,7 @@ use Rattle.exact.specs.Parts.{Is}
 use Rattle.card.specs.Rows.{station_to, in_units}
 use Rattle.heights.specs.declared.axis.Axis.{Axis}
 use Rattle.heights.specs.Heights.{count_on}
-use Rattle.minsk.specs.declared.Widths.{Widths as Held}
+use Rattle.minsk.specs.declared.widths.Widths.{Widths as Held}
 use Rattle.minsk.specs.declared.runoff.Stage.{Stage}
 use Rattle.minsk.specs.declared.runoff.Growth.{Growth}
 use Rattle.minsk.specs.declared.runoff.Runoff.{Runoff}
@@ -37,7 +37,7 @@ section_in r =
       R = r.radius;
     }
 
--- the first stage ends at end/per, over 2000, or over 4 where there is a widening; its length is no more, and the clothoid is longer
+-- the first stage ends at end/per, over 2000, or over 4 where there is a widening; there is room for it before, and the clothoid goes on past it
 pub record StageIs (x : Section) (g : Stage) : Type 0 where
   pub is : Is (stage_end x) g.end 0 g.per
   pub room : 8 * (x.h * g.per) ≤ g.end

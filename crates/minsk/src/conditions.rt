@@ -4,7 +4,7 @@ ghost use Rattle.minsk_section.specs.Lines.{section_by, section_of};
 ghost use Rattle.minsk.specs.Refusal.{not_for, too_long, not_placed, too_steep};
 ghost use Rattle.minsk.specs.Reckoning.{widths_in};
 
-use crate::Widths;
+use crate::widths::Widths;
 use card::Card;
 
 // A full slope of 20, a radius of 2000 or the profiles of category V: the handbook has no such runoff.

@@ -5,67 +5,24 @@ mod conditions;
 mod rows;
 mod runoff;
 mod turning;
+mod widths;
 
 ghost use Rattle.std.specs.Prelude.{◌≡◌, length, IfOk};
 ghost use Rattle.card.specs.Reasons.{first, refusal_before};
 ghost use Rattle.card.specs.Told.{refusal_number, number_told, told};
-ghost use Rattle.minsk_section.specs.Widths.{widths_at};
 ghost use Rattle.minsk.specs.Refusal.{method_tests, refusal};
 ghost use Rattle.minsk.specs.Table.{reply_to, table_after};
 ghost use Rattle.minsk.specs.Climbing.{ClimbingTable};
-ghost use Rattle.minsk.specs.Reckoning.{widths_in};
 
 use crate::conditions::{is_not_for, is_not_placed, is_too_long, is_too_steep};
 use crate::rows::write_rows;
+use crate::widths::widths_at;
 use card::{
     Card, Refusal, added_slope, check_after, check_before, check_room, profile_at, row_count,
 };
 
 // How many numbers a row has in a table.
 pub const ROW_WIDTH: usize = 9;
-
-// The widths of a category, in mm: half the carriageway, the shoulder with its strip, the strip alone, and the least that a widening leaves of
-// the inner shoulder with its strip.
-#[derive(Clone, Copy, Default)]
-struct Widths {
-    half: u32,
-    shoulder: u32,
-    strip: u32,
-    least: u32,
-}
-
-// II, III and IV.
-const WIDTHS: [Widths; 3] = [
-    Widths {
-        half: 3500,
-        shoulder: 3000,
-        strip: 750,
-        least: 1500,
-    },
-    Widths {
-        half: 3500,
-        shoulder: 2500,
-        strip: 500,
-        least: 1500,
-    },
-    Widths {
-        half: 3000,
-        shoulder: 2000,
-        strip: 500,
-        least: 1000,
-    },
-];
-
-// The widths by the number of the profile: 1 is II, 2 is III, 3 is IV; any other has widths of nought.
-fn widths_at(profile: u32) -> Widths
-    ensures { widths_in result ≡ widths_at profile }
-{
-    if !(1..=3).contains(&profile) {
-        return Widths::default();
-    }
-    let i = (profile - 1) as usize;
-    WIDTHS[i]
-}
 
 // The first of a card's own reasons, 1 to 6, 36, 37, 38, 8, 9, 10, 34 or 35, where one is met.
 pub fn check_card(card: Card) -> Result<(), Refusal>

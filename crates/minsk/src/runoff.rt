@@ -4,7 +4,7 @@ ghost use Rattle.minsk_section.specs.Lines.{section_of};
 ghost use Rattle.minsk.specs.Refusal.{refusal};
 ghost use Rattle.minsk.specs.Reckoning.{StageIs, GrowthIs, section_in, Limits};
 
-use crate::widths_at;
+use crate::widths::widths_at;
 use card::Card;
 
 // How long the widening grows, in mm.
@@ -24,7 +24,8 @@ pub(crate) struct Growth {
     pub over: u64,
 }
 
-// Lengths in mm but the radius in metres, the slope in per mille.
+// Lengths in mm but the radius in metres, the slope in per mille. The radius has done its work in the two places; it is kept for what the contracts
+// say of the section.
 #[derive(Clone, Copy)]
 pub(crate) struct Runoff {
     pub half_width: u64,
@@ -54,7 +55,8 @@ fn stage_of(card: Card) -> Stage
     }
 }
 
-// 20 m before L × R / 500, which is whole where there is a widening; where there is none, it is nowhere above nought.
+// 20 m before L × R / 500, which is whole where there is a widening. Where there is none, its place does not matter, and its parts are over 1: so
+// the products of a row keep within 64 bits.
 fn growth_of(card: Card) -> Growth
     requires { refusal card ≡ 0 }
     ensures { GrowthIs (section_of card) result }

@@ -1,4 +1,4 @@
--- `minsk::widths_at` meets its contract.
+-- `minsk::widths::widths_at` meets its contract.
 -- Assumes nothing.
 use Rattle.std.proofs.Common.{◌≡◌, true, rules, sym, ◌∙◌}
 use Rattle.card.specs.Words.{outside}
@@ -6,7 +6,7 @@ use Rattle.minsk_section.specs.Widths.{no_widths}
 use Rattle.minsk_section.proofs.WidthEntries.{none_outside}
 use Rattle.minsk.specs.Reckoning.{widths_in}
 use Rattle.minsk.proofs.HeldWidths.{read_widths}
-use Rattle.minsk.proofs.widths_at.Goals as goal
+use Rattle.minsk.proofs.widths.widths_at.Goals as goal
 
 pub returns-then-not-contains : goal.returns-then-not-contains
 returns-then-not-contains c =

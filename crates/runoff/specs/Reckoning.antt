@@ -4,11 +4,11 @@ use Rattle.std.specs.Prelude.{◌≡◌, List, ℕ, ◌+◌, ◌*◌, ◌≤◌,
 use Rattle.exact.specs.Exact.{Exact, whole, ◌⊗◌}
 use Rattle.exact.specs.Parts.{Is}
 use Rattle.card.specs.Rows.{station_to, in_units}
+use Rattle.heights.specs.declared.axis.Axis.{Axis}
+use Rattle.heights.specs.Heights.{count_on}
 use Rattle.runoff.specs.declared.Runoff.{Runoff}
 use Rattle.runoff.specs.declared.turning.Slope.{Slope}
 use Rattle.runoff.specs.declared.turning.Slopes.{Slopes}
-use Rattle.heights.specs.declared.axis.Axis.{Axis}
-use Rattle.heights.specs.Heights.{count_on}
 use Rattle.runoff.specs.declared.rows.Sides.{Sides}
 use Rattle.runoff.specs.declared.rows.Row.{Row}
 use Rattle.section.specs.Lines.{Section, axis, outer_slope, inner_slope, shoulder_slope, widening, inner_brow, inner_edge, outer_edge, outer_brow}

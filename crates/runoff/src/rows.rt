@@ -2,11 +2,11 @@
 ghost use Rattle.std.specs.Prelude.{◌≡◌, ◌++◌, ◌+◌, ◌*◌, ◌-◌, ◌≤◌, length, drop};
 ghost use Rattle.exact.specs.Exact.{whole, ◌⊗◌};
 ghost use Rattle.card.specs.Rows.{in_units, station_to};
+ghost use Rattle.card.specs.RowsInto.{with_rows};
 ghost use Rattle.section.specs.Lines.{axis_height, widening};
 ghost use Rattle.runoff.specs.Refusal.{refusal};
 ghost use Rattle.runoff.specs.Runoff.{runoff_of};
 ghost use Rattle.runoff.specs.Rows.{cells, row_count, row_width, rows};
-ghost use Rattle.card.specs.RowsInto.{with_rows};
 ghost use Rattle.runoff.specs.Reckoning.{section_in, Limits, SlopesAt, inner_sides, outer_sides, row_on, rows_on};
 
 use crate::turning::{Slopes, Station};

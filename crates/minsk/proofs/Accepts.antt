@@ -1,7 +1,7 @@
 -- A card is accepted exactly when each reason, turned round, holds; and then its section has these sizes.
 -- Assumes nothing.
 use mathlib.Core.Path.{◌≡◌, refl}
-use Prim.Native.Nat.{◌*◌, ◌≤◌}
+use Prim.Native.Nat.{◌≤◌}
 use native.Mathlib.Nat.{mul-le-mul_left}
 use native.Mathlib.Omega.{arith}
 use lib.Dec.{lit<}
@@ -14,7 +14,7 @@ use Rattle.card.proofs.InOrder as order
 use Rattle.card.proofs.Steps.{at_start, passed}
 use Rattle.card.proofs.Accepts.{shared_rule, unit_in}
 use Rattle.minsk_section.specs.Widths.{widths_at}
-use Rattle.minsk_section.specs.Lines.{section_of, Premises, Gentle}
+use Rattle.minsk_section.specs.Lines.{section_of}
 use Rattle.minsk.specs.Rows.{row_count, row_width}
 use Rattle.minsk.specs.Refusal.{method_tests, refusal}
 use Rattle.minsk.specs.Accepted.{Sizes, AcceptedBy, AcceptedTheorem}

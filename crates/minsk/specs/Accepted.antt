@@ -1,6 +1,6 @@
 -- What holds of a card that none of its own reasons refuses by this method.
 -- Assumes nothing.
-use Rattle.std.specs.Prelude.{◌≡◌, ◌↔◌, ◌*◌, ◌≤◌, ◌<◌}
+use Rattle.std.specs.Prelude.{◌≡◌, ◌↔◌, ◌*◌, ◌≤◌}
 use Rattle.card.specs.declared.Card.{Card}
 use Rattle.card.specs.Profile.{profile_at, added_of}
 use Rattle.card.specs.Accepted.{PassedBefore, PassedAfter}

@@ -1,6 +1,6 @@
 -- `minsk::fill_table` meets its contract.
 -- Assumes nothing.
-use Rattle.std.proofs.Common.{◌≡◌, ◌*◌, ◌≤◌, length, sym, refl, arith}
+use Rattle.std.proofs.Common.{◌*◌, ◌≤◌, length, sym, refl, arith}
 use Rattle.std.proofs.lemmas.Result.{err_from_is_err_and}
 use Rattle.card.proofs.Tests.{room_held}
 use Rattle.card.proofs.Told.{not_nought}

@@ -1,4 +1,6 @@
 //! The card, the profiles, and the reasons 1 to 6, 8 to 10, 34 and 35 for which a card is refused.
+//!
+//! The handbook's method (`minsk`) shares all of them but 8.
 
 /// One line of the table of profiles: lengths in mm, slopes in ‰, radius in metres.
 #[derive(Clone, Copy, Debug)]
@@ -201,24 +203,28 @@ pub fn radii_looked_at(radius: u32) -> Option<u32> {
 }
 
 /// 0 for a card that none of its own reasons refuses, else the first one met: 34 and 35 come after 10.
-pub fn check_card(numbers: &Numbers) -> u32 {
-    let card = Card::new(numbers);
-    match check_eight(&card) {
-        0 => check_datum(&card),
-        reason => reason,
-    }
-}
-
-/// Reasons 1 to 6 and 8 to 10.
 ///
 /// Document 02, Slip 1: "Cards that gave 7 go on to the later reasons. Number 7 never occurs again".
-fn check_eight(card: &Card) -> u32 {
+pub fn check_card(numbers: &Numbers) -> u32 {
+    let card = Card::new(numbers);
+    let reasons = [check_curve, check_added_slope, check_rows, check_datum];
+    first_met(&card, &reasons)
+}
+
+/// The first reason that any of these gives, in this order, or 0; what comes after it is not looked at.
+pub(crate) fn first_met(card: &Card, reasons: &[fn(&Card) -> u32]) -> u32 {
+    let mut met = reasons.iter().map(|reason| reason(card));
+    met.find(|&reason| reason != 0).unwrap_or(0)
+}
+
+/// Reasons 1 to 6.
+pub(crate) fn check_curve(card: &Card) -> u32 {
     let Some(profile) = profile(card.profile) else {
         return 1;
     };
-    let Some(added) = added_slope(&profile, card.terrain) else {
+    if added_slope(&profile, card.terrain).is_none() {
         return 2;
-    };
+    }
     if card.radius < profile.least_radius || card.radius > GREATEST_RADIUS {
         return 3;
     }
@@ -231,9 +237,22 @@ fn check_eight(card: &Card) -> u32 {
     if widened_too_much(card) {
         return 6;
     }
-    if profile.half * (profile.crown_slope + card.full_slope) > added * card.length {
+    0
+}
+
+/// Reason 8, of a card with a known profile and terrain: h × (p + v) above added slope × L.
+fn check_added_slope(card: &Card) -> u32 {
+    let profile = profile(card.profile).expect("a profile");
+    let added = added_slope(&profile, card.terrain).expect("a terrain");
+    let climb = profile.half * (profile.crown_slope + card.full_slope);
+    if climb > added * card.length {
         return 8;
     }
+    0
+}
+
+/// Reasons 9 and 10.
+pub(crate) fn check_rows(card: &Card) -> u32 {
     if card.step < LEAST_STEP || card.step > GREATEST_STEP {
         return 9;
     }
@@ -244,7 +263,7 @@ fn check_eight(card: &Card) -> u32 {
 }
 
 /// Reasons 34 and 35, of an absolute card whose unit is 1 or 10.
-fn check_datum(card: &Card) -> u32 {
+pub(crate) fn check_datum(card: &Card) -> u32 {
     let Datum::Absolute { height, grade } = card.datum else {
         return 0;
     };

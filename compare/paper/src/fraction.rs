@@ -30,6 +30,9 @@ pub fn whole(number: impl Into<i128>) -> Fraction {
 impl Add for Fraction {
     type Output = Fraction;
     fn add(self, other: Fraction) -> Fraction {
+        if self.bottom == other.bottom {
+            return fraction(self.top + other.top, self.bottom);
+        }
         fraction(
             self.top * other.bottom + other.top * self.bottom,
             self.bottom * other.bottom,
@@ -168,6 +171,8 @@ mod tests {
     fn sums_and_comparing() {
         assert_eq!(fraction(1, 2) + fraction(1, 3), fraction(5, 6));
         assert_eq!(fraction(1, 2) - fraction(1, 3), fraction(1, 6));
+        assert_eq!(fraction(2, 7) + fraction(3, 7), fraction(5, 7));
+        assert_eq!(fraction(2, 7) - fraction(3, 7), fraction(-1, 7));
         assert_eq!(fraction(2, 4) * fraction(2, 3), fraction(1, 3));
         assert_eq!(fraction(1, 2) / fraction(3, 4), fraction(2, 3));
         assert!(fraction(-1, 2) < fraction(-1, 3));

@@ -1,8 +1,8 @@
-//! Documents 01 and 02 (Slips 1 to 6): the paper "Superelevation runoff about the axis, categories II to V", rule by
+//! Documents 01 and 02 (Slips 1 to 7): the paper "Superelevation runoff about the axis, categories II to V", rule by
 //! rule, with what document 02 changes and adds: Slip 1, "The bank is widened, the shoulder is kept";
 //! Slip 2, "A whole day's cards in one call"; Slip 3, "Stop looking once found";
 //! Slip 4, "Write the book as well as read it"; Slip 5, "Heights above the benchmark";
-//! Slip 6, "Halfway goes up in millimetres".
+//! Slip 6, "Halfway goes up in millimetres"; Slip 7, "The method of the Minsk handbook".
 //!
 //! Written to be read beside the papers: their words, their order, exact fractions throughout.
 #![forbid(unsafe_code)]
@@ -11,6 +11,7 @@ pub mod book;
 pub mod card;
 pub mod day;
 pub mod fraction;
+pub mod minsk;
 pub mod rows;
 pub mod section;
 pub mod writer;
@@ -18,6 +19,7 @@ pub mod writer;
 pub use book::{read_book, BookReply};
 pub use card::{check_card, Card, Numbers, Profile};
 pub use day::{fill_day, DayReply};
+pub use minsk::{check_minsk_card, fill_minsk_table, minsk_rows};
 pub use rows::{fill_table, rows, stations, TableReply};
 pub use writer::{write_book, WriterReply};
 
@@ -27,6 +29,8 @@ mod above_benchmark;
 mod both_bodies;
 #[cfg(test)]
 mod halfway;
+#[cfg(test)]
+mod handbook;
 #[cfg(test)]
 mod kept_shoulder;
 #[cfg(test)]

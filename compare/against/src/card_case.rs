@@ -3,21 +3,36 @@
 use crate::cards::{Numbers, CARD_NUMBERS, LENGTH, STEP};
 use crate::lent::{Lent, Unlike, ABOVE_16_BITS};
 use crate::seeded::Seeded;
+use paper::TableReply;
 use std::hint::black_box;
 
-/// Numbers in a row, and in the longest table.
-const ROW: usize = 7;
-const LONGEST: usize = 2107;
+/// A method by which a card gets its rows, as the paper has it.
+pub struct Method {
+    /// Numbers in a row.
+    pub row: usize,
+    pub check: fn(&Numbers) -> u32,
+    pub fill: fn(&Numbers, &mut [i32]) -> TableReply,
+}
+
+/// The method of 503-0-45.
+pub const BY_503: Method = Method {
+    row: 7,
+    check: paper::check_card,
+    fill: paper::fill_table,
+};
+
+/// No card has more rows.
+const MOST_ROWS: usize = 301;
 
 /// How long the lent table is, measured against the rows due.
 pub const CLASSES: [&str; 8] = [
     "0",
-    "1 to 6",
+    "below a row",
     "one short",
     "exactly due",
     "one more",
     "many more",
-    "2107",
+    "301 rows",
     "above 65536",
 ];
 
@@ -47,6 +62,8 @@ pub fn library(loan: &mut Loan) -> [u32; 2] {
 /// All that the calls answer and all that they could touch.
 #[derive(Clone, PartialEq)]
 pub struct CardAnswer {
+    /// Numbers in a row.
+    row: usize,
     pub check: u32,
     pub reply: u32,
     pub count: Lent<u32>,
@@ -61,21 +78,34 @@ pub struct CardCase {
     pub came: CardAnswer,
 }
 
-/// Lends one table of a seeded length to the paper's rules and to the calls.
+/// Lends one table of a seeded length to the paper's rules for 503-0-45 and to the calls.
 pub fn run(card: Numbers, call: Call, seeded: &mut Seeded) -> CardCase {
+    run_by(&BY_503, card, call, seeded)
+}
+
+/// The same by any method.
+pub fn run_by(method: &Method, card: Numbers, call: Call, seeded: &mut Seeded) -> CardCase {
     let class = if seeded.one_in(LONG_ONE_IN) {
         LONG
     } else {
         seeded.pick(&SHARES)
     };
-    let length = table_length(class, ROW * rows_due(&card, seeded), seeded);
-    let case = with_table(card, length, call, seeded);
+    let due = method.row * rows_due(&card, seeded);
+    let length = table_length(method, class, due, seeded);
+    let case = with_table(method, card, length, call, seeded);
     CardCase { class, ..case }
 }
 
 /// The same with a table of that length.
-pub fn with_table(card: Numbers, length: usize, call: Call, seeded: &mut Seeded) -> CardCase {
+pub fn with_table(
+    method: &Method,
+    card: Numbers,
+    length: usize,
+    call: Call,
+    seeded: &mut Seeded,
+) -> CardCase {
     let before = CardAnswer {
+        row: method.row,
         check: 0,
         reply: 0,
         count: Lent::filled(1, seeded),
@@ -84,7 +114,7 @@ pub fn with_table(card: Numbers, length: usize, call: Call, seeded: &mut Seeded)
     };
     let mut came = before.clone();
     let mut due = before;
-    by_the_paper(&card, &mut due);
+    by_the_paper(method, &card, &mut due);
     came.count.numbers_mut()[0] = wrong_number(due.count.numbers()[0], seeded);
     by_the_call(call, &mut came);
     CardCase {
@@ -110,22 +140,22 @@ fn rows_due(card: &Numbers, seeded: &mut Seeded) -> usize {
     }
 }
 
-fn table_length(class: usize, due: usize, seeded: &mut Seeded) -> usize {
+fn table_length(method: &Method, class: usize, due: usize, seeded: &mut Seeded) -> usize {
     match class {
         0 => 0,
-        1 => seeded.between(1, 6) as usize,
+        1 => 1 + seeded.below(method.row - 1),
         2 => due - 1,
         3 => due,
         4 => due + 1,
         5 => due + seeded.between(2, 400) as usize,
-        6 => LONGEST,
+        6 => method.row * MOST_ROWS,
         _ => ABOVE_16_BITS + seeded.below(due),
     }
 }
 
-fn by_the_paper(card: &Numbers, due: &mut CardAnswer) {
-    due.check = paper::check_card(card);
-    let reply = paper::fill_table(card, due.table.numbers_mut());
+fn by_the_paper(method: &Method, card: &Numbers, due: &mut CardAnswer) {
+    due.check = (method.check)(card);
+    let reply = (method.fill)(card, due.table.numbers_mut());
     due.reply = reply.number;
     due.count.numbers_mut()[0] = reply.count;
 }
@@ -157,7 +187,7 @@ impl CardAnswer {
 
     /// Numbers of the table that hold rows.
     fn in_rows(&self) -> usize {
-        ROW * self.count.numbers()[0] as usize
+        self.row * self.count.numbers()[0] as usize
     }
 
     pub fn numbers_compared(&self) -> u64 {

@@ -2,9 +2,10 @@
 
 use crate::card_case::CardCase;
 use crate::cards::{Numbers, GRADE, HEIGHT, MARK, UNIT};
+use crate::tally::is_halfway;
 use paper::card::{Datum, GREATEST_GRADE, GREATEST_HEIGHT, GREATEST_LENGTH};
 use paper::card::{LEAST_GRADE, LEAST_HEIGHT};
-use paper::fraction::{fraction, whole, Fraction};
+use paper::fraction::{whole, Fraction};
 use paper::rows::tie;
 use paper::section::{Course, Runoff};
 use paper::{stations, Card};
@@ -59,12 +60,6 @@ impl Rounded {
         }
         rounded
     }
-}
-
-/// Half a unit lies between an exact number of units and the rounded number.
-fn is_halfway(exact: Fraction, number: i32) -> bool {
-    let between = exact - whole(number);
-    between == fraction(1, 2) || between == fraction(-1, 2)
 }
 
 impl<'a> Seen<'a> {
@@ -314,7 +309,7 @@ pub const SORTS: [(&str, IsOfSort); 56] = [
 #[cfg(test)]
 mod tests {
     use super::{Seen, SORTS};
-    use crate::card_case::{library, with_table};
+    use crate::card_case::{library, with_table, BY_503};
     use crate::cards::Numbers;
     use crate::seeded::Seeded;
     use paper::card::{absolute, marked, relative};
@@ -326,7 +321,8 @@ mod tests {
 
     /// The sorts of the card, one after another.
     fn sorts(card: Numbers, table_length: usize) -> String {
-        let case = with_table(card, table_length, library, &mut Seeded::new(1, 1, 1));
+        let mut seeded = Seeded::new(1, 1, 1);
+        let case = with_table(&BY_503, card, table_length, library, &mut seeded);
         let seen = Seen::new(&case);
         let met = SORTS.iter().filter(|(_, is_of_sort)| is_of_sort(&seen));
         let names: Vec<_> = met.map(|(name, _)| *name).collect();

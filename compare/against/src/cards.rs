@@ -9,12 +9,12 @@ use paper::card::{
 pub use paper::card::{Numbers, CARD_NUMBERS};
 
 /// Places of the numbers on the card.
-const PROFILE: usize = 0;
-const TERRAIN: usize = 1;
-const RADIUS: usize = 2;
+pub const PROFILE: usize = 0;
+pub const TERRAIN: usize = 1;
+pub const RADIUS: usize = 2;
 pub const LENGTH: usize = 3;
-const SLOPE: usize = 4;
-const WIDENING: usize = 5;
+pub const SLOPE: usize = 4;
+pub const WIDENING: usize = 5;
 pub const STEP: usize = 6;
 pub const UNIT: usize = 7;
 pub const MARK: usize = 8;
@@ -25,7 +25,7 @@ pub const GRADE: usize = 10;
 const OTHER_MARKS: [i32; 8] = [2, -1, 10, 256, 65_536, -65_536, i32::MAX, i32::MIN];
 
 /// Makes a seeded card.
-type Make = fn(&mut Seeded) -> Numbers;
+pub type Make = fn(&mut Seeded) -> Numbers;
 
 pub const KINDS: [(&str, Make); 5] = [
     ("valid", valid),
@@ -63,7 +63,7 @@ fn valid_with(number: u32, radius: u32, seeded: &mut Seeded) -> Numbers {
 }
 
 /// The mark, the height and the grade of a card that is not refused for them.
-fn datum(unit: u32, seeded: &mut Seeded) -> [i32; 3] {
+pub fn datum(unit: u32, seeded: &mut Seeded) -> [i32; 3] {
     match seeded.below(16) {
         0..=4 => [0; 3],
         5 => [0, any_height(seeded), any_grade(seeded)],
@@ -74,7 +74,7 @@ fn datum(unit: u32, seeded: &mut Seeded) -> [i32; 3] {
 }
 
 /// Any mark but 0 and 1, and seldom 1.
-fn other_mark(seeded: &mut Seeded) -> i32 {
+pub fn other_mark(seeded: &mut Seeded) -> i32 {
     match seeded.below(3) {
         0 => (seeded.number() | 1).cast_signed(),
         _ => seeded.pick(&OTHER_MARKS),
@@ -82,7 +82,7 @@ fn other_mark(seeded: &mut Seeded) -> i32 {
 }
 
 /// Any whole number of units within the limits; often a limit, or nought, or near it.
-fn height(unit: u32, seeded: &mut Seeded) -> i32 {
+pub fn height(unit: u32, seeded: &mut Seeded) -> i32 {
     let unit = unit.cast_signed();
     let height = match seeded.below(10) {
         0 => LEAST_HEIGHT,
@@ -97,7 +97,7 @@ fn height(unit: u32, seeded: &mut Seeded) -> i32 {
 }
 
 /// Any grade within the limits; often a limit, or nought, or beside it.
-fn grade(seeded: &mut Seeded) -> i32 {
+pub fn grade(seeded: &mut Seeded) -> i32 {
     match seeded.below(8) {
         0 => LEAST_GRADE,
         1 => GREATEST_GRADE,
@@ -107,7 +107,7 @@ fn grade(seeded: &mut Seeded) -> i32 {
 }
 
 /// A height on a limit or beside it, by one or by one unit; about a whole number of units; or any number.
-fn any_height(seeded: &mut Seeded) -> i32 {
+pub fn any_height(seeded: &mut Seeded) -> i32 {
     let limit = seeded.pick(&[LEAST_HEIGHT, GREATEST_HEIGHT]);
     match seeded.below(10) {
         0..=2 => limit + seeded.signed(-1, 1),
@@ -121,7 +121,7 @@ fn any_height(seeded: &mut Seeded) -> i32 {
 }
 
 /// A grade on a limit or beside it, small, or any number; of some of them 8 or 16 bits are within the limits.
-fn any_grade(seeded: &mut Seeded) -> i32 {
+pub fn any_grade(seeded: &mut Seeded) -> i32 {
     let limit = seeded.pick(&[LEAST_GRADE, GREATEST_GRADE]);
     match seeded.below(10) {
         0..=3 => limit + seeded.signed(-1, 1),
@@ -136,6 +136,11 @@ fn any_grade(seeded: &mut Seeded) -> i32 {
 /// An absolute card, rarely a relative one, with a height or a grade on a bound, or both; the other numbers are mostly
 /// right.
 fn datum_on_a_bound(seeded: &mut Seeded) -> Numbers {
+    datum_on_a_bound_from(valid, bounds, seeded)
+}
+
+/// The same by any method.
+pub fn datum_on_a_bound_from(valid: Make, bounds: Bounds, seeded: &mut Seeded) -> Numbers {
     let mut card = valid(seeded);
     let unit = card[UNIT].cast_unsigned();
     (card[HEIGHT], card[GRADE]) = match seeded.below(3) {
@@ -151,7 +156,7 @@ fn datum_on_a_bound(seeded: &mut Seeded) -> Numbers {
     if seeded.one_in(5) {
         card[UNIT] = seeded.pick(&around(&[1, 10])).cast_signed();
     } else if seeded.one_in(10) {
-        put_on_a_bound(&mut card, seeded);
+        put_on_a_bound(&mut card, bounds, seeded);
     }
     card
 }
@@ -219,7 +224,7 @@ fn spare_shoulder(profile: &Profile) -> u32 {
 }
 
 /// Any step; the least and the greatest; such that divide L, or miss it by one.
-fn step(length: u32, seeded: &mut Seeded) -> u32 {
+pub fn step(length: u32, seeded: &mut Seeded) -> u32 {
     match seeded.below(12) {
         0 => 1000,
         1 => 20_000,
@@ -234,13 +239,16 @@ fn step(length: u32, seeded: &mut Seeded) -> u32 {
 }
 
 /// A number, one below it and one above; those below 0 as 32 bits have them.
-fn around(numbers: &[u32]) -> Vec<u32> {
+pub fn around(numbers: &[u32]) -> Vec<u32> {
     let three = |n: &u32| [n.wrapping_sub(1), *n, n.wrapping_add(1)];
     numbers.iter().flat_map(three).collect()
 }
 
 /// The numbers at and beside the bounds of one place, the card's other numbers given.
-fn bounds(card: &Numbers, place: usize) -> Vec<u32> {
+pub type Bounds = fn(&Numbers, usize) -> Vec<u32>;
+
+/// Those of 503-0-45.
+pub fn bounds(card: &Numbers, place: usize) -> Vec<u32> {
     match place {
         PROFILE => around(&[1, 5]),
         TERRAIN => around(&[1, 2]),
@@ -257,7 +265,7 @@ fn bounds(card: &Numbers, place: usize) -> Vec<u32> {
 }
 
 /// One of the numbers, without a sign.
-fn of(card: &Numbers, place: usize) -> u32 {
+pub fn of(card: &Numbers, place: usize) -> u32 {
     card[place].cast_unsigned()
 }
 
@@ -311,7 +319,7 @@ fn widening_bounds(card: &Numbers) -> Vec<u32> {
 }
 
 /// Puts one number of the card on one of its bounds, or beside it.
-fn put_on_a_bound(card: &mut Numbers, seeded: &mut Seeded) {
+pub fn put_on_a_bound(card: &mut Numbers, bounds: Bounds, seeded: &mut Seeded) {
     let place = seeded.below(CARD_NUMBERS);
     card[place] = seeded.pick(&bounds(card, place)).cast_signed();
 }
@@ -323,9 +331,9 @@ fn on_a_bound(seeded: &mut Seeded) -> Numbers {
         3 => radius_and_widening(seeded),
         share => {
             let mut card = valid(seeded);
-            put_on_a_bound(&mut card, seeded);
+            put_on_a_bound(&mut card, bounds, seeded);
             if share >= 7 {
-                put_on_a_bound(&mut card, seeded);
+                put_on_a_bound(&mut card, bounds, seeded);
             }
             card
         }
@@ -357,7 +365,7 @@ fn steep_and_short(seeded: &mut Seeded) -> Numbers {
     };
     card[LENGTH] = length.cast_signed();
     if seeded.one_in(4) {
-        put_on_a_bound(&mut card, seeded);
+        put_on_a_bound(&mut card, bounds, seeded);
     }
     card
 }
@@ -373,15 +381,20 @@ fn radius_and_widening(seeded: &mut Seeded) -> Numbers {
 
 /// A valid card with one or two numbers replaced.
 pub fn damaged(seeded: &mut Seeded) -> Numbers {
+    damaged_from(valid, bounds, seeded)
+}
+
+/// The same by any method.
+pub fn damaged_from(valid: Make, bounds: Bounds, seeded: &mut Seeded) -> Numbers {
     let mut card = valid(seeded);
-    damage(&mut card, seeded);
+    damage(&mut card, bounds, seeded);
     if seeded.one_in(2) {
-        damage(&mut card, seeded);
+        damage(&mut card, bounds, seeded);
     }
     card
 }
 
-fn damage(card: &mut Numbers, seeded: &mut Seeded) {
+fn damage(card: &mut Numbers, bounds: Bounds, seeded: &mut Seeded) {
     let place = seeded.below(CARD_NUMBERS);
     let number = of(card, place);
     let damaged = match seeded.below(10) {
@@ -404,7 +417,7 @@ fn of_any_size(seeded: &mut Seeded) -> u32 {
 }
 
 /// Random numbers in all places; in half of the cards of any size, and the first two small.
-fn random(seeded: &mut Seeded) -> Numbers {
+pub fn random(seeded: &mut Seeded) -> Numbers {
     if seeded.one_in(2) {
         return std::array::from_fn(|_| seeded.number().cast_signed());
     }

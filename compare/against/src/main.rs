@@ -1,8 +1,8 @@
-//! Compares the compiled library with the paper's rules, card by card, book by book, day by day, radius by radius and
-//! list by list.
+//! Compares the compiled library with the paper's rules, card by card, book by book, day by day, radius by radius, list by
+//! list, and card by card for the method of the Minsk handbook.
 //!
-//! `against [--cards N] [--books N] [--days N] [--lists N] [--seed S]`: the same words give the same output; the radii
-//! are always the same.
+//! `against [--cards N] [--books N] [--days N] [--lists N] [--minsk N] [--seed S]`: the same words give the same output;
+//! the radii are always the same.
 //! Ends well only without differences, with every reply met, no other one given, and every altered answer found.
 #![forbid(unsafe_code)]
 
@@ -21,6 +21,9 @@ mod lent;
 mod list_case;
 mod list_tally;
 mod lists;
+mod minsk_cards;
+mod minsk_case;
+mod minsk_tally;
 mod radii;
 mod radius_case;
 mod read_back;
@@ -41,12 +44,15 @@ mod wrong_listed_heights;
 #[cfg(test)]
 mod wrong_lists;
 #[cfg(test)]
+mod wrong_minsk;
+#[cfg(test)]
 mod wrong_radii;
 
 use book_tally::SORTS as BOOK_SORTS;
 use card_tally::SORTS as CARD_SORTS;
 use day_tally::{DayTally, DAY_REPLIES, PLACES, SORTS as DAY_SORTS};
 use list_tally::{ListTally, LIST_REPLIES, SORTS as LIST_SORTS};
+use minsk_tally::{MinskTally, MINSK_REPLIES, SORTS as MINSK_SORTS};
 use std::env;
 use std::process::ExitCode;
 use tally::{Altered, Tally, BOOK_REPLIES, CARD_REPLIES, SORTS};
@@ -58,12 +64,16 @@ const DEFAULT: Asked = Asked {
     books: 200_000,
     days: 20_000,
     lists: 100_000,
+    minsk: 300_000,
     seed: 20_260_101,
 };
 /// How often each reply must be met in a run of the default size.
 const OFTEN: u64 = 100;
 /// The same for each reply and each sort of days, which are fewer.
 const OFTEN_IN_DAYS: u64 = 10;
+
+/// What may be asked.
+const WORDS: &str = "against [--cards N] [--books N] [--days N] [--lists N] [--minsk N] [--seed S]";
 
 fn asked() -> Result<Asked, String> {
     let mut asked = DEFAULT;
@@ -74,6 +84,7 @@ fn asked() -> Result<Asked, String> {
             "--books" => &mut asked.books,
             "--days" => &mut asked.days,
             "--lists" => &mut asked.lists,
+            "--minsk" => &mut asked.minsk,
             "--seed" => &mut asked.seed,
             _ => return Err(format!("unknown word {word}")),
         };
@@ -94,13 +105,17 @@ fn lacks(asked: Asked, tally: &Tally) -> Vec<String> {
     lacks.extend(day_lacks(&tally.days, days_often));
     let lists_often = often(asked.lists, DEFAULT.lists, OFTEN);
     lacks.extend(list_lacks(&tally.lists, lists_often));
+    let minsk_often = often(asked.minsk, DEFAULT.minsk, OFTEN);
+    lacks.extend(minsk_lacks(&tally.minsk, minsk_often));
     let whole = asked.cards >= DEFAULT.cards && asked.books >= DEFAULT.books;
     let whole = whole && asked.days >= DEFAULT.days && asked.lists >= DEFAULT.lists;
+    let whole = whole && asked.minsk >= DEFAULT.minsk;
     lacks.extend(unseen("card", &tally.altered_cards, whole));
     lacks.extend(unseen("book", &tally.altered_books, whole));
     lacks.extend(unseen("day", &tally.days.altered, whole));
     lacks.extend(unseen("radius", &tally.altered_radii, true));
     lacks.extend(unseen("list", &tally.lists.altered, whole));
+    lacks.extend(unseen("handbook's card", &tally.minsk.altered, whole));
     lacks
 }
 
@@ -169,6 +184,22 @@ fn list_lacks(tally: &ListTally, due: u64) -> Vec<String> {
     lacks
 }
 
+/// Replies to cards for the handbook's method and sorts of them that are met too rarely.
+fn minsk_lacks(tally: &MinskTally, due: u64) -> Vec<String> {
+    let mut lacks = Vec::new();
+    for (place, reply) in MINSK_REPLIES.iter().enumerate() {
+        let met = tally.reply(place);
+        lacks.extend(rarely(&format!("handbook's reply {reply}"), met, due));
+    }
+    for ((sort, _), &met) in MINSK_SORTS.iter().zip(&tally.sorts) {
+        lacks.extend(rarely(&format!("handbook's card with {sort}"), met, due));
+    }
+    let unlisted = tally.unlisted;
+    let unlisted = || format!("a listed reply to {unlisted} of the handbook's cards");
+    lacks.extend((tally.unlisted > 0).then(unlisted));
+    lacks
+}
+
 fn rarely(what: &str, met: u64, due: u64) -> Option<String> {
     (met < due).then(|| format!("{what} met {met} times, at least {due} due"))
 }
@@ -187,7 +218,7 @@ fn main() -> ExitCode {
     let asked = match asked() {
         Ok(asked) => asked,
         Err(fault) => {
-            eprintln!("{fault}\nagainst [--cards N] [--books N] [--days N] [--lists N] [--seed S]");
+            eprintln!("{fault}\n{WORDS}");
             return ExitCode::from(2);
         }
     };
@@ -202,10 +233,12 @@ fn main() -> ExitCode {
         books,
         days,
         lists,
+        minsk,
         ..
     } = asked;
     let (radii, differing) = (tally.radii_compared(), tally.differing);
-    println!("{cards} cards, {books} books, {days} days, {radii} radii, {lists} lists, {differing} differences");
+    print!("{cards} cards, {books} books, {days} days, {radii} radii, {lists} lists, ");
+    println!("{minsk} cards for the handbook's method, {differing} differences");
     if differing == 0 && lacks.is_empty() {
         ExitCode::SUCCESS
     } else {

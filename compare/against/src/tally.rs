@@ -8,8 +8,10 @@ use crate::card_tally::{self, SORTS as CARD_SORTS};
 use crate::cards;
 use crate::day_tally::DayTally;
 use crate::list_tally::ListTally;
+use crate::minsk_tally::MinskTally;
 use crate::radius_case::{self, RadiusCase};
 use paper::card::{profile, Datum};
+use paper::fraction::{fraction, whole, Fraction};
 use paper::section::{Course, Runoff};
 use paper::Card;
 
@@ -89,6 +91,7 @@ pub struct Tally {
     pub altered_radii: [Altered; radius_case::ALTERATIONS.len()],
     pub days: DayTally,
     pub lists: ListTally,
+    pub minsk: MinskTally,
     pub differing: u64,
     pub differences: Vec<Difference>,
 }
@@ -114,6 +117,7 @@ impl Default for Tally {
             altered_radii: [Altered::default(); radius_case::ALTERATIONS.len()],
             days: DayTally::default(),
             lists: ListTally::default(),
+            minsk: MinskTally::default(),
             differing: 0,
             differences: Vec::new(),
         }
@@ -122,6 +126,12 @@ impl Default for Tally {
 
 pub fn add_numbers<const N: usize>(to: &mut [u64; N], from: &[u64; N]) {
     to.iter_mut().zip(from).for_each(|(to, from)| *to += from);
+}
+
+/// Half a unit lies between an exact number of units and the rounded number.
+pub fn is_halfway(exact: Fraction, number: i32) -> bool {
+    let between = exact - whole(number);
+    between == fraction(1, 2) || between == fraction(-1, 2)
 }
 
 pub fn add_altered(to: &mut [Altered], from: &[Altered]) {
@@ -205,6 +215,7 @@ impl Tally {
         add_altered(&mut self.altered_radii, &other.altered_radii);
         self.days.add(&other.days);
         self.lists.add(&other.lists);
+        self.minsk.add(&other.minsk);
         self.unlisted += other.unlisted;
         self.rows += other.rows;
         self.table_numbers += other.table_numbers;

@@ -13,6 +13,8 @@ use crate::lent::Unlike;
 use crate::list_case::{self, ListAnswer, ListCase};
 use crate::list_tally::{LIST_REPLIES, SORTS as LIST_SORTS};
 use crate::lists::{self, LISTED, MOST_CURVES};
+use crate::minsk_cards;
+use crate::minsk_tally::{MINSK_REPLIES, SORTS as MINSK_SORTS};
 use crate::radius_case::{self, RadiusAnswer, RadiusCase};
 use crate::tally::{Altered, Tally, BOOK_REPLIES, CARD_REPLIES, LENGTHS, RANGES, SORTS};
 use std::fmt::Arguments;
@@ -47,6 +49,8 @@ pub fn print_tally(tally: &Tally) {
     print_radii(tally);
     println!();
     print_lists(tally);
+    println!();
+    print_minsk(tally);
     println!();
     print_altered(tally);
 }
@@ -161,6 +165,31 @@ fn print_lists(tally: &Tally) {
     println!("{numbers} numbers and bytes compared, tails and guards too");
 }
 
+fn print_minsk(tally: &Tally) {
+    let tally = &tally.minsk;
+    let kinds = minsk_cards::KINDS.iter().map(|(name, _)| name);
+    let replies = MINSK_REPLIES.map(|reply| reply.to_string());
+    heading("Handbook's cards by reply", &replies);
+    for (name, counts) in kinds.clone().zip(&tally.cards) {
+        line(name, counts);
+    }
+    line("all", &sum(&tally.cards));
+    println!();
+    let classes = CLASSES.map(str::to_string);
+    heading("Handbook's cards by table length", &classes);
+    for (name, counts) in kinds.zip(&tally.classes) {
+        line(name, counts);
+    }
+    line("all", &sum(&tally.classes));
+    println!();
+    heading("Handbook's cards by sort", &["met".to_string()]);
+    for ((name, _), met) in MINSK_SORTS.iter().zip(&tally.sorts) {
+        line(name, &[*met]);
+    }
+    let (rows, numbers) = (tally.rows, tally.numbers);
+    println!("{rows} rows compared; {numbers} numbers, tails and guards too");
+}
+
 fn print_altered(tally: &Tally) {
     heading(
         "Altered on purpose",
@@ -181,10 +210,16 @@ fn print_altered(tally: &Tally) {
     for ((name, _), altered) in list_case::ALTERATIONS.iter().zip(&tally.lists.altered) {
         line(&format!("list: {name}"), &[altered.made, altered.found]);
     }
+    for ((name, _), altered) in card_case::ALTERATIONS.iter().zip(&tally.minsk.altered) {
+        line(
+            &format!("handbook's: {name}"),
+            &[altered.made, altered.found],
+        );
+    }
     let (cards, books) = (&tally.altered_cards[..], &tally.altered_books[..]);
     let (days, radii) = (&tally.days.altered[..], &tally.altered_radii[..]);
-    let lists = &tally.lists.altered[..];
-    let all = total(&[cards, books, days, radii, lists].concat());
+    let (lists, minsk) = (&tally.lists.altered[..], &tally.minsk.altered[..]);
+    let all = total(&[cards, books, days, radii, lists, minsk].concat());
     println!("{} altered answers, {} found", all.made, all.found);
 }
 

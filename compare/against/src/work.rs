@@ -9,6 +9,8 @@ use crate::days;
 use crate::lent::Unlike;
 use crate::list_case::{self, ListAnswer, ListCase};
 use crate::lists;
+use crate::minsk_cards;
+use crate::minsk_case;
 use crate::radii::radii;
 use crate::radius_case::{self, RadiusAnswer, RadiusCase};
 use crate::seeded::Seeded;
@@ -19,7 +21,7 @@ use std::ops::Range;
 use std::sync::atomic::{AtomicU64, Ordering};
 use std::thread;
 
-/// Cards, books or lists in a piece, and days, which are longer; one of them is altered as well.
+/// Cards of either method, books or lists in a piece, and days, which are longer; one of them is altered as well.
 const PIECE: u64 = 1000;
 const DAYS_PIECE: u64 = 100;
 /// Sorts of seeded numbers.
@@ -34,6 +36,8 @@ const ALTERED_RADIUS: u64 = 8;
 const LIST: u64 = 9;
 const ALTERED_LIST: u64 = 10;
 const FILLED_BOOK: u64 = 11;
+const MINSK: u64 = 12;
+const ALTERED_MINSK: u64 = 13;
 /// One accepted book in so many has its cards filled into tables too.
 const BOOKS_FILLED: usize = 4;
 
@@ -43,6 +47,7 @@ pub struct Asked {
     pub books: u64,
     pub days: u64,
     pub lists: u64,
+    pub minsk: u64,
     pub seed: u64,
 }
 
@@ -67,6 +72,7 @@ fn pieces(asked: Asked, next: &AtomicU64) -> Tally {
     let books_end = card_pieces + asked.books.div_ceil(PIECE);
     let days_end = books_end + asked.days.div_ceil(DAYS_PIECE);
     let lists_end = days_end + asked.lists.div_ceil(PIECE);
+    let minsk_end = lists_end + asked.minsk.div_ceil(PIECE);
     let mut tally = Tally::default();
     loop {
         let piece = next.fetch_add(1, Ordering::Relaxed);
@@ -78,7 +84,9 @@ fn pieces(asked: Asked, next: &AtomicU64) -> Tally {
             days_of(piece, piece - books_end, asked, &mut tally);
         } else if piece < lists_end {
             lists_of(piece, piece - days_end, asked, &mut tally);
-        } else if piece == lists_end {
+        } else if piece < minsk_end {
+            minsk_of(piece, piece - lists_end, asked, &mut tally);
+        } else if piece == minsk_end {
             all_radii(piece, asked.seed, &mut tally);
         } else {
             return tally;
@@ -220,6 +228,30 @@ fn lists_of(piece: u64, nth: u64, asked: Asked, tally: &mut Tally) {
     }
 }
 
+/// The kind of the handbook's card of that index, and its answers by the paper and by the calls.
+pub fn minsk(seed: u64, index: u64, call: card_case::Call) -> (usize, CardCase) {
+    let mut seeded = Seeded::new(seed, MINSK, index);
+    let kind = index as usize % minsk_cards::KINDS.len();
+    let (_, make) = minsk_cards::KINDS[kind];
+    let card = make(&mut seeded);
+    (kind, minsk_case::run(card, call, &mut seeded))
+}
+
+fn minsk_of(piece: u64, nth: u64, asked: Asked, tally: &mut Tally) {
+    let mut altered = Seeded::new(asked.seed, ALTERED_MINSK, nth);
+    let (range, chosen) = indices(nth, PIECE, asked.minsk, &mut altered);
+    for index in range {
+        let (kind, case) = minsk(asked.seed, index, minsk_case::library);
+        let (name, _) = minsk_cards::KINDS[kind];
+        let origin = format_args!("the handbook's method, {name}, index {index}");
+        let like = compare_card(piece, &origin, &case, tally);
+        tally.minsk.count(kind, &case);
+        if like && index == chosen {
+            alter_minsk(&case, &mut altered, tally);
+        }
+    }
+}
+
 /// The answers for a radius by the paper and by the call; the seed chooses the guards and what is there before.
 pub fn answers_for(seed: u64, radius: u32, call: radius_case::Call) -> RadiusCase {
     let mut seeded = Seeded::new(seed, RADIUS, u64::from(radius));
@@ -268,6 +300,12 @@ fn alter_each<A: Clone>(
 fn alter_card(case: &CardCase, seeded: &mut Seeded, tally: &mut Tally) {
     let answers = (&case.due, &case.came);
     let (alterations, tally) = (&card_case::ALTERATIONS, &mut tally.altered_cards);
+    alter_each(answers, CardAnswer::unlike, alterations, seeded, tally);
+}
+
+fn alter_minsk(case: &CardCase, seeded: &mut Seeded, tally: &mut Tally) {
+    let answers = (&case.due, &case.came);
+    let (alterations, tally) = (&card_case::ALTERATIONS, &mut tally.minsk.altered);
     alter_each(answers, CardAnswer::unlike, alterations, seeded, tally);
 }
 

@@ -1,4 +1,4 @@
-//! The library's six calls, over slices. An empty slice crosses as NULL, as the header allows.
+//! The library's eight calls, over slices. An empty slice crosses as NULL, as the header allows.
 
 #[cfg(test)]
 mod header;
@@ -13,6 +13,13 @@ pub type Card = [i32; 11];
 extern "C" {
     fn pippinterm_check_card(card: *const i32) -> u32;
     fn pippinterm_fill_table(
+        card: *const i32,
+        table: *mut i32,
+        table_length: usize,
+        count: *mut u32,
+    ) -> u32;
+    fn pippinterm_check_minsk_card(card: *const i32) -> u32;
+    fn pippinterm_fill_minsk_table(
         card: *const i32,
         table: *mut i32,
         table_length: usize,
@@ -76,6 +83,19 @@ pub fn fill_table(card: &Card, table: &mut [i32], count: &mut u32) -> u32 {
     let (length, table) = (table.len(), start_mut(table));
     // SAFETY: every place lent here is its slice's own, with its true length.
     unsafe { pippinterm_fill_table(card.as_ptr(), table, length, count) }
+}
+
+/// The first of the reasons 1 to 6, 36 to 38, 8 to 10, 34 and 35 met by the handbook's method, or 0.
+pub fn check_minsk_card(card: &Card) -> u32 {
+    // SAFETY: the call reads the eleven numbers lent here.
+    unsafe { pippinterm_check_minsk_card(card.as_ptr()) }
+}
+
+/// Fills the table with the handbook's rows, sets their count and gives the reply number.
+pub fn fill_minsk_table(card: &Card, table: &mut [i32], count: &mut u32) -> u32 {
+    let (length, table) = (table.len(), start_mut(table));
+    // SAFETY: every place lent here is its slice's own, with its true length.
+    unsafe { pippinterm_fill_minsk_table(card.as_ptr(), table, length, count) }
 }
 
 /// Fills the table and the reply list, sets the count of cards and gives the reply number.

@@ -1,7 +1,8 @@
 //! How much stack the calls take: less than the header says.
 
 use crate::header::HEADER;
-use crate::{check_card, fill_day, fill_table, least_length, read_book, write_book, Card};
+use crate::{check_card, check_minsk_card, fill_day, fill_minsk_table, fill_table};
+use crate::{least_length, read_book, write_book, Card};
 use std::arch::asm;
 
 /// What the header says, and the same in bytes.
@@ -18,6 +19,12 @@ const TWO_STAGE: Card = [3, 1, 700, 120_000, 40, 400, 20_000, 10, 0, 0, 0];
 const HIGH_EVEN: Card = [5, 1, 30, 30_000, 60, 600, 20_000, 1, 1, 250_000, -35];
 const HIGH_TWO_STAGE: Card = [3, 1, 700, 120_000, 40, 400, 20_000, 10, 1, -99_990, 80];
 const WRONG_UNIT: Card = [3, 1, 700, 120_000, 40, 400, 20_000, 2, 0, 0, 0];
+
+/// Cards of 8 and of 9 rows by the handbook: crowned at first, in both stages, with a widening in its growth and past it.
+const BANKED: Card = [1, 1, 600, 140_000, 48, 0, 20_000, 1, 0, 0, 0];
+const WIDENED: Card = [3, 2, 400, 140_000, 60, 3500, 20_000, 10, 0, 0, 0];
+const HIGH_BANKED: Card = [2, 1, 401, 140_001, 47, 0, 20_000, 10, 1, 9_000_000, 80];
+const HIGH_WIDENED: Card = [2, 1, 500, 140_000, 50, 2000, 20_000, 1, 1, -100_000, -80];
 
 const PAINT: u8 = 0xa5;
 const SIZE: usize = 64 * 1024;
@@ -103,6 +110,36 @@ fn a_cards_table() {
             number = check_card(&card) + fill_table(&card, &mut table, &mut count);
         });
         assert_eq!((number, table[7 * count as usize - 7]), (0, card[3]));
+        assert!((1..SAID).contains(&taken), "{taken} bytes");
+    }
+}
+
+/// The last row's station is L; then each of the handbook's own reasons, and a table that is one number short.
+#[test]
+fn a_handbook_cards_table() {
+    for card in [BANKED, WIDENED, HIGH_BANKED, HIGH_WIDENED] {
+        let (mut table, mut number, mut count) = ([0; 81], 1, 0);
+        let taken = taken(|| {
+            let check = check_minsk_card(&card);
+            number = check + fill_minsk_table(&card, &mut table, &mut count);
+        });
+        let rows = (card[3] as usize).div_ceil(20_000) + 1;
+        assert_eq!((number, count as usize), (0, rows));
+        assert_eq!(table[9 * rows - 9], card[3]);
+        assert!((1..SAID).contains(&taken), "{taken} bytes");
+    }
+    for (place, wrong, due) in [
+        (4, 20, 36),
+        (2, 399, 37),
+        (5, 1, 38),
+        (7, 2, 10),
+        (6, 5000, 11),
+    ] {
+        let (mut card, mut table, mut count) = (BANKED, [0; 72], 1);
+        card[place] = wrong;
+        let mut number = 0;
+        let taken = taken(|| number = fill_minsk_table(&card, &mut table, &mut count));
+        assert_eq!((number, count), (due, 0));
         assert!((1..SAID).contains(&taken), "{taken} bytes");
     }
 }

@@ -212,13 +212,13 @@ pub fn check_card(numbers: &Numbers) -> u32 {
 }
 
 /// The first reason that any of these gives, in this order, or 0; what comes after it is not looked at.
-pub(crate) fn first_met(card: &Card, reasons: &[fn(&Card) -> u32]) -> u32 {
+pub fn first_met(card: &Card, reasons: &[fn(&Card) -> u32]) -> u32 {
     let mut met = reasons.iter().map(|reason| reason(card));
     met.find(|&reason| reason != 0).unwrap_or(0)
 }
 
 /// Reasons 1 to 6.
-pub(crate) fn check_curve(card: &Card) -> u32 {
+pub fn check_curve(card: &Card) -> u32 {
     let Some(profile) = profile(card.profile) else {
         return 1;
     };
@@ -252,7 +252,7 @@ fn check_added_slope(card: &Card) -> u32 {
 }
 
 /// Reasons 9 and 10.
-pub(crate) fn check_rows(card: &Card) -> u32 {
+pub fn check_rows(card: &Card) -> u32 {
     if card.step < LEAST_STEP || card.step > GREATEST_STEP {
         return 9;
     }
@@ -263,7 +263,7 @@ pub(crate) fn check_rows(card: &Card) -> u32 {
 }
 
 /// Reasons 34 and 35, of an absolute card whose unit is 1 or 10.
-pub(crate) fn check_datum(card: &Card) -> u32 {
+pub fn check_datum(card: &Card) -> u32 {
     let Datum::Absolute { height, grade } = card.datum else {
         return 0;
     };

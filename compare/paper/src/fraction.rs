@@ -104,7 +104,6 @@ impl Fraction {
     }
 
     /// The same fraction with the least bottom, for comparing such as have great ones.
-    #[cfg(test)]
     pub fn in_lowest_terms(self) -> Fraction {
         let (mut divisor, mut rest) = (self.bottom, self.top.abs());
         while rest > 0 {

@@ -9,11 +9,25 @@ pub fn relative_cards() -> [Numbers; 64] {
 
 /// The same cards with heights from the least to the greatest, in tens of mm, and grades of either sign.
 pub fn absolute_cards() -> [Numbers; 64] {
+    with_heights(&EIGHTS)
+}
+
+fn with_heights(eights: &[[i32; 8]; 64]) -> [Numbers; 64] {
     std::array::from_fn(|i| {
         let place = i as i32;
         let height = -10_000 + 910_000 * place / 63;
-        absolute(EIGHTS[i], 10 * height, place * 37 % 161 - 80)
+        absolute(eights[i], 10 * height, place * 37 % 161 - 80)
     })
+}
+
+/// The handbook's cards as they stand below, relative.
+pub fn handbook_cards() -> [Numbers; 64] {
+    HANDBOOK_EIGHTS.map(relative)
+}
+
+/// The handbook's cards with the heights and the grades of the others.
+pub fn absolute_handbook_cards() -> [Numbers; 64] {
+    with_heights(&HANDBOOK_EIGHTS)
 }
 
 /// Accepted cards with steps of 1 m, from 30 m to 300 m: all profiles, both
@@ -86,10 +100,80 @@ pub const EIGHTS: [[i32; 8]; 64] = [
     [4, 2, 90, 61747, 60, 350, 1000, 10],
 ];
 
+/// Cards that the handbook's method accepts, with steps of 1 m, from 90 m to 300 m: profiles 1 to 3, both terrains, both
+/// units, half of them widened.
+#[rustfmt::skip]
+const HANDBOOK_EIGHTS: [[i32; 8]; 64] = [
+    [1, 1, 500, 138407, 45, 900, 1000, 1],
+    [2, 1, 452, 166250, 60, 300, 1000, 1],
+    [3, 1, 1660, 169000, 26, 0, 1000, 10],
+    [1, 2, 800, 149384, 43, 0, 1000, 10],
+    [2, 2, 341, 256500, 30, 1650, 1000, 1],
+    [3, 2, 300, 191210, 60, 400, 1000, 1],
+    [1, 1, 800, 165404, 50, 0, 1000, 10],
+    [2, 1, 700, 120000, 60, 0, 1000, 10],
+    [3, 1, 400, 246360, 39, 900, 1000, 1],
+    [1, 2, 279, 261000, 60, 2500, 1000, 1],
+    [2, 2, 935, 296341, 38, 0, 1000, 10],
+    [3, 2, 455, 172000, 60, 0, 1000, 10],
+    [1, 1, 237, 271000, 60, 3100, 1000, 1],
+    [2, 1, 378, 182000, 60, 500, 1000, 1],
+    [3, 1, 823, 123762, 43, 0, 1000, 10],
+    [1, 2, 800, 212000, 32, 0, 1000, 10],
+    [2, 2, 438, 250250, 60, 1450, 1000, 1],
+    [3, 2, 450, 264560, 36, 650, 1000, 1],
+    [1, 1, 911, 156000, 60, 0, 1000, 10],
+    [2, 1, 1064, 197000, 41, 0, 1000, 10],
+    [3, 1, 354, 163500, 57, 3150, 1000, 1],
+    [1, 2, 478, 291500, 60, 800, 1000, 1],
+    [2, 2, 600, 241476, 60, 0, 1000, 10],
+    [3, 2, 1295, 218096, 42, 0, 1000, 10],
+    [1, 1, 350, 217780, 60, 950, 1000, 1],
+    [2, 1, 409, 296500, 60, 2050, 1000, 1],
+    [3, 1, 700, 229127, 44, 0, 1000, 10],
+    [1, 2, 800, 142000, 42, 0, 1000, 10],
+    [2, 2, 296, 220375, 43, 1850, 1000, 1],
+    [3, 2, 350, 227620, 60, 800, 1000, 1],
+    [1, 1, 629, 168215, 60, 0, 1000, 10],
+    [2, 1, 600, 285000, 36, 0, 1000, 10],
+    [3, 1, 243, 273500, 60, 1000, 1000, 1],
+    [1, 2, 450, 255490, 60, 1000, 1000, 1],
+    [2, 2, 800, 260356, 35, 0, 1000, 10],
+    [3, 2, 800, 182572, 60, 0, 1000, 10],
+    [1, 1, 312, 200500, 60, 900, 1000, 1],
+    [2, 1, 396, 183625, 33, 2800, 1000, 1],
+    [3, 1, 600, 231802, 60, 0, 1000, 10],
+    [1, 2, 800, 231000, 60, 0, 1000, 10],
+    [2, 2, 248, 241875, 34, 450, 1000, 1],
+    [3, 2, 426, 225000, 60, 900, 1000, 1],
+    [1, 1, 815, 266200, 33, 0, 1000, 10],
+    [2, 1, 600, 206247, 60, 0, 1000, 10],
+    [3, 1, 500, 186958, 48, 2700, 1000, 1],
+    [1, 2, 250, 262952, 60, 1250, 1000, 1],
+    [2, 2, 700, 234925, 42, 0, 1000, 10],
+    [3, 2, 800, 128326, 37, 0, 1000, 10],
+    [1, 1, 448, 157750, 37, 1200, 1000, 1],
+    [2, 1, 400, 258990, 47, 450, 1000, 1],
+    [3, 1, 700, 198000, 45, 0, 1000, 10],
+    [1, 2, 825, 226000, 39, 0, 1000, 10],
+    [2, 2, 341, 255500, 43, 1400, 1000, 1],
+    [3, 2, 200, 279545, 60, 1150, 1000, 1],
+    [1, 1, 600, 298049, 33, 0, 1000, 10],
+    [2, 1, 796, 258236, 24, 0, 1000, 10],
+    [3, 1, 423, 122500, 60, 250, 1000, 1],
+    [1, 2, 350, 229130, 39, 2150, 1000, 1],
+    [2, 2, 700, 228000, 53, 0, 1000, 10],
+    [3, 2, 800, 279578, 60, 0, 1000, 10],
+    [1, 1, 450, 178670, 45, 950, 1000, 1],
+    [2, 1, 258, 291500, 34, 2400, 1000, 1],
+    [3, 1, 700, 139501, 59, 0, 1000, 10],
+    [1, 2, 700, 271391, 60, 0, 1000, 10],
+];
+
 #[cfg(test)]
 mod tests {
-    use super::{absolute_cards, relative_cards};
-    use paper::check_card;
+    use super::{absolute_cards, absolute_handbook_cards, handbook_cards, relative_cards};
+    use paper::{check_card, check_minsk_card};
 
     /// The limits are among the heights and the grades.
     #[test]
@@ -100,5 +184,13 @@ mod tests {
         assert_eq!((cards[0][9], cards[63][9]), (-100_000, 9_000_000));
         assert!(cards.iter().any(|card| card[10] == -80));
         assert!(cards.iter().any(|card| card[10] > 75));
+    }
+
+    #[test]
+    fn all_are_accepted_by_the_handbook() {
+        let (relative, absolute) = (handbook_cards(), absolute_handbook_cards());
+        let mut cards = relative.iter().chain(&absolute);
+        assert!(cards.all(|card| check_minsk_card(card) == 0));
+        assert_eq!(relative.iter().filter(|card| card[5] > 0).count(), 32);
     }
 }

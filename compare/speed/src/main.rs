@@ -15,12 +15,12 @@ use std::process::ExitCode;
 type Fill = fn(&Numbers, &mut [i32]) -> (u32, u32);
 type Read = fn(&[u8], &mut [i32]) -> (u32, u32, u32);
 
-/// Seven numbers for each row of the longest card, and some to spare.
-const TABLE: usize = 7 * 301 + 9;
+/// Nine numbers for each row of the longest card, and some to spare.
+const TABLE: usize = 9 * 301 + 9;
 const LIST: usize = 832;
 
-/// The tables of relative cards, and of absolute ones.
-const TABLES: [&str; 2] = ["tables", "heights"];
+/// The tables of relative cards, and of absolute ones; and the same by the method of the Minsk handbook.
+const TABLES: [&str; 4] = ["tables", "heights", "minsk", "minskhigh"];
 const BOOKS: [&str; 4] = ["tail", "longest", "ordinary", "greatest"];
 
 /// The library's table, its number and count.
@@ -30,6 +30,32 @@ fn our_table(card: &Numbers, table: &mut [i32]) -> (u32, u32) {
     (number, count)
 }
 
+/// The library's table by the handbook, its number and count.
+fn our_minsk_table(card: &Numbers, table: &mut [i32]) -> (u32, u32) {
+    let mut count = 0;
+    let number = calls::fill_minsk_table(card, table, &mut count);
+    (number, count)
+}
+
+/// How tables are filled.
+struct Method {
+    /// Numbers in a row.
+    row: usize,
+    ours: Fill,
+    plain: Fill,
+}
+
+const BY_503: Method = Method {
+    row: 7,
+    ours: our_table,
+    plain: plain::section::fill_table,
+};
+const BY_THE_HANDBOOK: Method = Method {
+    row: 9,
+    ours: our_minsk_table,
+    plain: plain::minsk::fill_table,
+};
+
 /// The library's list, its number, count and line.
 fn our_list(text: &[u8], list: &mut [i32]) -> (u32, u32, u32) {
     let (mut count, mut line) = (0, 0);
@@ -37,11 +63,13 @@ fn our_list(text: &[u8], list: &mut [i32]) -> (u32, u32, u32) {
     (number, count, line)
 }
 
-/// The cards of that work.
-fn cards(name: &str) -> Option<[Numbers; 64]> {
+/// The cards of that work, and the method that fills their tables.
+fn cards(name: &str) -> Option<([Numbers; 64], Method)> {
     match name {
-        "tables" => Some(cards::relative_cards()),
-        "heights" => Some(cards::absolute_cards()),
+        "tables" => Some((cards::relative_cards(), BY_503)),
+        "heights" => Some((cards::absolute_cards(), BY_503)),
+        "minsk" => Some((cards::handbook_cards(), BY_THE_HANDBOOK)),
+        "minskhigh" => Some((cards::absolute_handbook_cards(), BY_THE_HANDBOOK)),
         _ => None,
     }
 }
@@ -72,18 +100,19 @@ fn read_one(read: Read, text: &[u8], list: &mut [i32]) {
 }
 
 /// Whether both give the same answers and tables, with room and without.
-fn same_tables(cards: &[Numbers]) -> bool {
+fn same_tables(cards: &[Numbers], method: &Method) -> bool {
     cards.iter().all(|card| {
         let rows = (card[3] as usize).div_ceil(card[6] as usize) + 1;
-        [TABLE, 7 * rows, 7 * rows - 1].iter().all(|&length| {
+        let numbers = method.row * rows;
+        [TABLE, numbers, numbers - 1].iter().all(|&length| {
             let (mut ours, mut plain) = (vec![-77; length], vec![-77; length]);
-            let due = if length < 7 * rows {
+            let due = if length < numbers {
                 (11, 0)
             } else {
                 (0, rows as u32)
             };
-            our_table(card, &mut ours) == due
-                && plain::section::fill_table(card, &mut plain) == due
+            (method.ours)(card, &mut ours) == due
+                && (method.plain)(card, &mut plain) == due
                 && ours == plain
         })
     })
@@ -107,14 +136,14 @@ fn compare() -> Result<(), String> {
     println!("work        times  ours (us) plain (us)    ratio    lower    upper");
     let (mut one, mut other) = (vec![0; TABLE], vec![0; TABLE]);
     for name in TABLES {
-        let cards = cards(name).ok_or("no such cards")?;
-        if !same_tables(&cards) {
+        let (cards, method) = cards(name).ok_or("no such cards")?;
+        if !same_tables(&cards, &method) {
             return Err(format!("the tables differ: {name}"));
         }
         timing::compare(
             name,
-            &mut || fill_all(our_table, &cards, &mut one),
-            &mut || fill_all(plain::section::fill_table, &cards, &mut other),
+            &mut || fill_all(method.ours, &cards, &mut one),
+            &mut || fill_all(method.plain, &cards, &mut other),
         );
     }
     let (mut one, mut other) = (vec![0; LIST], vec![0; LIST]);
@@ -134,17 +163,23 @@ fn compare() -> Result<(), String> {
 
 /// Does the named work so many times; `book` stands for all books in turn.
 fn count(work: &str, side: &str, repetitions: &str) -> Option<()> {
-    let (fill, read): (Fill, Read) = match side {
-        "ours" => (our_table, our_list),
-        "plain" => (plain::section::fill_table, plain::book::read_book),
+    let is_ours = match side {
+        "ours" => true,
+        "plain" => false,
         _ => return None,
     };
     let repetitions: usize = repetitions.parse().ok()?;
-    if let Some(cards) = cards(work) {
+    if let Some((cards, method)) = cards(work) {
+        let fill = if is_ours { method.ours } else { method.plain };
         let mut table = vec![0; TABLE];
         (0..repetitions).for_each(|_| fill_all(fill, &cards, &mut table));
         return Some(());
     }
+    let read: Read = if is_ours {
+        our_list
+    } else {
+        plain::book::read_book
+    };
     let names = if work == "book" {
         BOOKS.to_vec()
     } else {

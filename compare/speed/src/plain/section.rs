@@ -43,7 +43,7 @@ static PROFILES: [Profile; 5] = [
 ];
 
 /// Least clothoid length in mm; between two listed radii the longer holds.
-fn least_length(radius: i64) -> i64 {
+pub fn least_length(radius: i64) -> i64 {
     let mut before = 0;
     for &(listed, length) in &LEAST_LENGTHS {
         let (listed, length) = (i64::from(listed), i64::from(length));
@@ -60,21 +60,21 @@ fn least_length(radius: i64) -> i64 {
 
 /// A whole number over a whole number above nought.
 #[derive(Clone, Copy)]
-struct Fraction {
-    top: i64,
-    bottom: i64,
+pub struct Fraction {
+    pub top: i64,
+    pub bottom: i64,
 }
 
 impl Fraction {
     /// The greater of the fraction and a whole number, over the same bottom.
-    fn at_least(self, whole: i64) -> Fraction {
+    pub fn at_least(self, whole: i64) -> Fraction {
         let top = self.top.max(whole * self.bottom);
         Fraction { top, ..self }
     }
 }
 
 /// Nearest whole number; with a tie of 1 halfway goes to the lower, with 0 to the higher, also below nought.
-fn round(top: i64, bottom: i64, tie: i64) -> i32 {
+pub fn round(top: i64, bottom: i64, tie: i64) -> i32 {
     (2 * top + bottom - tie).div_euclid(2 * bottom) as i32
 }
 
@@ -110,7 +110,7 @@ fn reason(card: &Numbers) -> u32 {
 }
 
 /// 34 or 35 of an absolute card whose unit is 1 or 10, or 0.
-fn datum_reason(card: &Numbers) -> u32 {
+pub fn datum_reason(card: &Numbers) -> u32 {
     let [.., unit, mark, height, grade] = *card;
     if mark == 0 {
         0

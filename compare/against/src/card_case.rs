@@ -10,6 +10,8 @@ use std::hint::black_box;
 pub struct Method {
     /// Numbers in a row.
     pub row: usize,
+    /// Guards more behind the table, so that a row past its end shows whole.
+    pub guards: usize,
     pub check: fn(&Numbers) -> u32,
     pub fill: fn(&Numbers, &mut [i32]) -> TableReply,
 }
@@ -17,6 +19,7 @@ pub struct Method {
 /// The method of 503-0-45.
 pub const BY_503: Method = Method {
     row: 7,
+    guards: 0,
     check: paper::check_card,
     fill: paper::fill_table,
 };
@@ -110,7 +113,7 @@ pub fn with_table(
         reply: 0,
         count: Lent::filled(1, seeded),
         card: Lent::holding(&card, &[], seeded),
-        table: Lent::filled(length, seeded),
+        table: Lent::filled_before(length, method.guards, seeded),
     };
     let mut came = before.clone();
     let mut due = before;

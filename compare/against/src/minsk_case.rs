@@ -10,6 +10,7 @@ pub const ROW: usize = MINSK_ROW;
 
 pub const BY_THE_HANDBOOK: Method = Method {
     row: ROW,
+    guards: ROW,
     check: paper::check_minsk_card,
     fill: paper::fill_minsk_table,
 };

@@ -216,7 +216,7 @@ impl<'a> Seen<'a> {
 type IsOfSort = fn(&Seen) -> bool;
 
 /// Sorts of cards; a card can be of more than one.
-pub const SORTS: [(&str, IsOfSort); 105] = [
+pub const SORTS: [(&str, IsOfSort); 107] = [
     ("II", |card| card.reply == 0 && card.card.profile == 1),
     ("III", |card| card.reply == 0 && card.card.profile == 2),
     ("IV", |card| card.reply == 0 && card.card.profile == 3),
@@ -282,6 +282,16 @@ pub const SORTS: [(&str, IsOfSort); 105] = [
         let height = limits(LEAST_HEIGHT, GREATEST_HEIGHT, card.height());
         let grade = limits(LEAST_GRADE, GREATEST_GRADE, card.grade());
         card.has_heights() && card.card.length == GREATEST_LENGTH && height && grade
+    }),
+    ("limits on it, and a widening", |card| {
+        let limits = |low, high, n| n == low || n == high;
+        let height = limits(LEAST_HEIGHT, GREATEST_HEIGHT, card.height());
+        let grade = limits(LEAST_GRADE, GREATEST_GRADE, card.grade());
+        let is_longest = card.has_heights() && card.card.length == GREATEST_LENGTH;
+        is_longest && height && grade && card.card.full_widening > 0
+    }),
+    ("longest, R to 200, a widening", |card| {
+        card.grows(|_| card.card.length == GREATEST_LENGTH && card.card.radius <= 200)
     }),
     ("a grade, and a last step cut", |card| {
         let is_cut = |card: &Card| !card.length.is_multiple_of(card.step);

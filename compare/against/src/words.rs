@@ -211,10 +211,7 @@ fn print_altered(tally: &Tally) {
         line(&format!("list: {name}"), &[altered.made, altered.found]);
     }
     for ((name, _), altered) in card_case::ALTERATIONS.iter().zip(&tally.minsk.altered) {
-        line(
-            &format!("handbook's: {name}"),
-            &[altered.made, altered.found],
-        );
+        line(&format!("minsk: {name}"), &[altered.made, altered.found]);
     }
     let (cards, books) = (&tally.altered_cards[..], &tally.altered_books[..]);
     let (days, radii) = (&tally.days.altered[..], &tally.altered_radii[..]);

@@ -15,6 +15,8 @@ use paper::{check_card, check_minsk_card, fill_minsk_table, minsk_rows, stations
 
 /// A wrong program must be found among so many of the first cards of the default run.
 const FIRST_CARDS: u64 = 10_000;
+/// The place of the widening in a row; the seven lines follow.
+const WIDENING: usize = 1;
 
 fn right(loan: &mut Loan) -> [u32; 2] {
     right_for(loan.card, loan)
@@ -119,7 +121,8 @@ struct Rules {
     inner_shoulder: fn(&At, Fraction) -> Fraction,
     /// Where the inner carriageway's edge is, from the widening.
     inner_half: fn(&At, Fraction) -> Fraction,
-    tie: fn(&At) -> Tie,
+    /// Of the number at that place in a row.
+    tie: fn(&At, usize) -> Tie,
 }
 
 /// The handbook's, in other forms than the paper's crate has them.
@@ -142,7 +145,7 @@ const RIGHT: Rules = Rules {
     inner_shoulder_slope: |_, inner| inner.max(whole(40)),
     inner_shoulder: |at, widening| (at.shoulder() - widening).max(at.least_shoulder()),
     inner_half: |at, widening| at.h() + widening,
-    tie: |at| tie(at.card.unit),
+    tie: |at, _| tie(at.card.unit),
 };
 
 /// In lowest terms, so that no sum outgrows its numbers.
@@ -202,8 +205,8 @@ fn ruled(loan: &mut Loan, rules: &Rules) -> [u32; 2] {
             station,
         };
         let eight = rules.eight(&at).map(|line| line / unit);
-        for (place, exact) in row[1..].iter_mut().zip(eight) {
-            *place = exact.nearest((rules.tie)(&at));
+        for (place, exact) in (WIDENING..).zip(eight) {
+            row[place] = exact.nearest((rules.tie)(&at, place));
         }
     }
     numbers
@@ -787,15 +790,15 @@ const WRONG_ROWS: [(&str, Call); 18] = [
         numbers
     }),
     ("halfway to the lower number", |loan| {
-        let tie = |_: &At| Lower;
+        let tie = |_: &At, _| Lower;
         ruled(loan, &Rules { tie, ..RIGHT })
     }),
     ("halfway to the higher number", |loan| {
-        let tie = |_: &At| Higher;
+        let tie = |_: &At, _| Higher;
         ruled(loan, &Rules { tie, ..RIGHT })
     }),
     ("the units exchanged", |loan| {
-        let swapped = |at: &At| other(tie(at.card.unit));
+        let swapped = |at: &At, _| other(tie(at.card.unit));
         ruled(
             loan,
             &Rules {
@@ -843,6 +846,27 @@ const WRONG_ROWS: [(&str, Call); 18] = [
             outer.swap_with_slice(inner);
         })
     }),
+];
+
+/// Halfway goes where it does not go, at that place in every row.
+fn halfway_wrong_at<const PLACE: usize>(loan: &mut Loan) -> [u32; 2] {
+    let tie = |at: &At, place| match place == PLACE {
+        true => other(tie(at.card.unit)),
+        false => tie(at.card.unit),
+    };
+    ruled(loan, &Rules { tie, ..RIGHT })
+}
+
+/// Halfway is wrong in one number of a row alone, in either unit.
+const WRONG_HALVES: [(&str, Call); 8] = [
+    ("the widening", halfway_wrong_at::<WIDENING>),
+    ("the axis", halfway_wrong_at::<2>),
+    ("the outer edge", halfway_wrong_at::<3>),
+    ("the outer strip edge", halfway_wrong_at::<4>),
+    ("the outer brow", halfway_wrong_at::<5>),
+    ("the inner edge", halfway_wrong_at::<6>),
+    ("the inner strip edge", halfway_wrong_at::<7>),
+    ("the inner brow", halfway_wrong_at::<8>),
 ];
 
 /// One of the reasons, or 0.
@@ -1372,6 +1396,11 @@ fn wrong_shoulders_are_found() {
 #[test]
 fn wrong_rows_are_found() {
     all_are_found(first_difference, &WRONG_ROWS);
+}
+
+#[test]
+fn wrong_halves_are_found() {
+    all_are_found(first_difference, &WRONG_HALVES);
 }
 
 #[test]

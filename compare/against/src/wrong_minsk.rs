@@ -1311,6 +1311,47 @@ const WRONG_ORDER: [(&str, Call); 17] = [
     }),
 ];
 
+/// The same rules in other forms.
+const OTHER_FORMS: [(&str, Call); 3] = [
+    ("each stage by its own line", |loan| {
+        let outer_slope = |at: &At| {
+            let past = at.station - at.place_of(2000);
+            let first = whole(20) + whole(5) * past / at.h();
+            let share = past / (at.length() - at.place_of(2000));
+            let second = whole(20) + (at.v() - whole(20)) * share;
+            match past > whole(0) {
+                true => second,
+                false => first.max(whole(-20)),
+            }
+        };
+        let rules = Rules {
+            outer_slope,
+            ..RIGHT
+        };
+        ruled(loan, &rules)
+    }),
+    ("the widening less what is to come of it", |loan| {
+        let widening = |at: &At| {
+            let to_go = (at.place_of(500) - at.station).max(whole(0));
+            let share = to_go.min(whole(20_000)) / whole(20_000);
+            at.full_widening() - at.full_widening() * share
+        };
+        let rules = Rules { widening, ..RIGHT };
+        ruled(loan, &rules)
+    }),
+    ("the shoulder less what it can give", |loan| {
+        let inner_shoulder = |at: &At, widening: Fraction| {
+            let spare = at.shoulder() - at.least_shoulder();
+            at.shoulder() - widening.min(spare)
+        };
+        let rules = Rules {
+            inner_shoulder,
+            ..RIGHT
+        };
+        ruled(loan, &rules)
+    }),
+];
+
 /// The first card for which the program differs from the paper.
 fn first_difference(program: Call) -> Option<u64> {
     (0..FIRST_CARDS).find(|&index| {
@@ -1328,54 +1369,11 @@ fn right_programs_do_not_differ() {
     assert_eq!(first_difference(|loan| with_rows(loan, |_, _| ())), None);
 }
 
-/// Each stage by its own line, the growth by what is still to come of it, and the shoulder less what it can give at most.
 #[test]
 fn other_right_programs_do_not_differ() {
-    let by_two_lines: Call = |loan| {
-        let outer_slope = |at: &At| {
-            let end = at.place_of(2000);
-            let first = whole(20) + whole(5) * (at.station - end) / at.h();
-            let share = (at.station - end) / (at.length() - end);
-            let second = whole(20) + (at.v() - whole(20)) * share;
-            let is_past = at.station > end;
-            if is_past {
-                second
-            } else {
-                first.max(whole(-20))
-            }
-        };
-        ruled(
-            loan,
-            &Rules {
-                outer_slope,
-                ..RIGHT
-            },
-        )
-    };
-    assert_eq!(first_difference(by_two_lines), None);
-    let by_what_is_to_come: Call = |loan| {
-        let widening = |at: &At| {
-            let to_go = at.place_of(500) - at.station;
-            let to_go = to_go.max(whole(0)).min(whole(20_000));
-            at.full_widening() - at.full_widening() * to_go / whole(20_000)
-        };
-        ruled(loan, &Rules { widening, ..RIGHT })
-    };
-    assert_eq!(first_difference(by_what_is_to_come), None);
-    let less_what_it_can_give: Call = |loan| {
-        let inner_shoulder = |at: &At, widening: Fraction| {
-            let spare = at.shoulder() - at.least_shoulder();
-            at.shoulder() - widening.min(spare)
-        };
-        ruled(
-            loan,
-            &Rules {
-                inner_shoulder,
-                ..RIGHT
-            },
-        )
-    };
-    assert_eq!(first_difference(less_what_it_can_give), None);
+    for (name, program) in OTHER_FORMS {
+        assert_eq!(first_difference(program), None, "{name}");
+    }
 }
 
 #[test]

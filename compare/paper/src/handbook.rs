@@ -6,6 +6,7 @@
 use crate::card::{absolute, marked, relative};
 use crate::fraction::{fraction, whole, Fraction};
 use crate::minsk::{first_stage_end, first_stage_length, road_of, widening_end, Banking};
+use crate::rows::tie;
 use crate::{check_minsk_card, fill_minsk_table, minsk_rows, Card, Numbers, TableReply};
 
 /// The road of the handbook's example 2.1: L × R / 2000 is 42000, and the first stage, 28 m long, begins at 14000.
@@ -84,6 +85,27 @@ fn three_metres_and_a_half_into_the_first_stage() {
     // In cm −8.5 and −17.5 go to the lower.
     let in_cm = in_centimetres(with_step(SECOND, 3500));
     assert_eq!(eight_at(in_cm, 17_500), [0, 0, -5, -6, -10, -7, -9, -18]);
+}
+
+/// Example 2.1 itself, in metres, 5.5, 15.5 and 25.5 m into the first stage: −0.0425, −0.05 and −0.08; 0.0075, 0.01 and 0.01;
+/// 0.0575, 0.07 and 0.11; on the inner side −0.07, −0.085 and −0.18 (−0.175, which it rounds away from nought).
+#[test]
+fn example_2_1() {
+    let banking = banking(SECOND);
+    let in_cm = |line: Fraction| (line / whole(10_000)).nearest(tie(10));
+    for (into, edge, strip, brow) in [
+        (5500, -42_500, -5, -8),
+        (15_500, 7500, 1, 1),
+        (25_500, 57_500, 7, 11),
+    ] {
+        let at = whole(14_000 + into);
+        assert_eq!(banking.outer_edge(at), whole(edge));
+        assert_eq!(in_cm(banking.outer_strip(at)), strip);
+        assert_eq!(in_cm(banking.outer_brow(at)), brow);
+        assert_eq!(banking.inner_edge(at), whole(-70_000));
+        assert_eq!(banking.inner_strip(at), whole(-85_000));
+        assert_eq!(banking.inner_brow(at), whole(-175_000));
+    }
 }
 
 /// The whole of II without widening: outer lines at 3.5 × s, 4.25 × s and 6.5 × s.

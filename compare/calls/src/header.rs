@@ -1,6 +1,7 @@
 //! The constants and tables of the header beside the figures of the paper, and its version beside the changes.
 
 use paper::card::{profile, LEAST_LENGTHS};
+use paper::minsk::road_of;
 
 pub const HEADER: &str = include_str!("../../../include/pippinterm.h");
 
@@ -211,6 +212,26 @@ fn profiles_are_the_papers() {
         [&widths[..], &least, &[p.added_level, p.added_mountain]].concat()
     };
     assert_eq!(there, (1..=5).map(due).collect::<Vec<_>>());
+}
+
+/// The lines of the header with the handbook's widths begin with their category.
+#[test]
+fn widths_of_the_handbook_are_the_papers() {
+    let roads = ["II", "III", "IV"];
+    let lines = HEADER.lines().filter(|line| line.starts_with("     "));
+    let lines = lines.map(|line| line.trim_end_matches("*/").split_whitespace());
+    let lines = lines.map(|words| words.collect::<Vec<_>>());
+    let there: Vec<_> = lines
+        .filter(|words| roads.iter().any(|road| words.first() == Some(road)))
+        .collect();
+    let due = |(n, road): (u32, &&str)| {
+        let w = road_of(n).expect("a road of the handbook");
+        let widths = [w.half, w.shoulder, w.strip, w.least_shoulder];
+        let mut words = vec![road.to_string()];
+        words.extend(widths.iter().map(u32::to_string));
+        words
+    };
+    assert_eq!(there, (1..).zip(&roads).map(due).collect::<Vec<_>>());
 }
 
 #[test]

@@ -113,7 +113,7 @@ count_at c = back (count-is c) (few c)
 pub invariant_of-result : goal.invariant_of-result
 invariant_of-result c =
     record {
-      rest_most = rw (ap nat_abs (rest-is (before c))) (split.left_few _ _ _ _ c.requires);
+      rest_most = omega (arith, ap nat_abs (rest-is (before c)), split.left_few _ _ _ _ c.requires);
       count_most = rw (count_at c) (split.count_few _ _ _ _ c.requires);
       unit_least = c.requires.unit_least;
       unit_most = c.requires.unit_most;

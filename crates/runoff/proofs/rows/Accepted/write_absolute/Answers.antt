@@ -9,6 +9,7 @@ use mir.Facts.{to_z-of_z}
 use Rattle.card.specs.declared.Datum.TheVariants.{Absolute}
 use Rattle.card.proofs.RowPlaces.{station_most}
 use Rattle.section.specs.Lines.{axis}
+use Rattle.heights.specs.Heights.{Climbs}
 use Rattle.heights.proofs.OnAxis.{absolute_axis}
 use Rattle.heights.proofs.Passed.{climbs_of}
 use Rattle.runoff.specs.Rows.{station_of}
@@ -31,7 +32,9 @@ loop-i-preserved c =
     let passed = accepted a.card a.passes in
     let datum = datum_is (goal.at.loop-i-preserved c).Start in
     let within : station_of a.card c.loop-i.i ≤ 330000 = omega (arith, station_most a.card.clothoid a.card.step c.loop-i.i, passed.before.clothoid_most) in
-    let stands = rw (c.from-unit.ensures, c.station_of-station.ensures) at c.surveyed-axis.ensures.within (climbs_of passed.after datum within) in
+    let held : Climbs (to_z w32 (of_z w32 c.args.height)) (to_z w32 (of_z w32 c.args.grade)) c.station_of-station.result c.from-unit.result =
+    rw (c.from-unit.ensures, c.station_of-station.ensures) (climbs_of passed.after datum within) in
+    let stands = rw (c.from-unit.ensures, c.station_of-station.ensures) at (c.surveyed-axis.ensures.within held) in
     let is = absolute_axis (axis (section_in a.runoff)) _ datum stands in
     -- the axis's number, as it is read back
     let number = to_z-of_z {w = w32} (record { sfits = c.number.type_inv }) ∙ c.number.ensures in

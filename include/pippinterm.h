@@ -48,10 +48,11 @@ extern "C" {
                               PIPPINTERM_VERSION_PATCH)
 
 /* The numbers of a card, in their order. A card is relative, and its heights count
-   from the inner brow at station 0; or it is absolute, and its heights count from
-   the benchmark: the axis stands at the card's height at station 0, and at station
-   d, in mm, grade x d micrometres higher. The other lines are then as far above or
-   below the axis as a relative card has them.
+   by 503-0-45 from the inner brow at station 0, by the handbook from the axis; or it
+   is absolute, and its heights count from the benchmark: the axis stands at the
+   card's height at station 0, and at station d, in mm, grade x d micrometres higher.
+   The other lines are then as far above or below the axis as a relative card has
+   them.
    Cards that were not read from a book may hold anything. One of the first eight
    numbers that is below 0 counts as 4294967295, which is more than any of them may
    be, so that the card is refused. With the mark 0 the height and the grade are not
@@ -122,7 +123,7 @@ extern "C" {
 
 /* Sizes. */
 #define PIPPINTERM_MOST_ROWS 301      /* no card has more rows */
-#define PIPPINTERM_ENOUGH_TABLE 2107  /* numbers of a table that is long enough for every card */
+#define PIPPINTERM_ENOUGH_TABLE 2107  /* numbers of a table that is long enough for every card by 503-0-45 */
 #define PIPPINTERM_ENOUGH_MINSK_TABLE 2709 /* the same by the handbook */
 #define PIPPINTERM_MOST_CARDS 64      /* no day has more cards */
 #define PIPPINTERM_ENOUGH_DAY 134848  /* numbers of a table that is long enough for every day */
@@ -149,10 +150,10 @@ extern "C" {
      200:70  250:80  300:90  400:100  500:110  600:120  700:120  800:120
      1000:120  2000:100
 
-   The handbook has profiles 1 to 3 alone, with these widths in mm: half the
-   carriageway, shoulder with its strip, strip, and the least that widening leaves
-   of the inner shoulder with its strip. Its crown slope is 20 per mille; least
-   radius, least length and added slope are those above.
+   By the handbook there are profiles 1 to 3 alone, with these widths in mm: half
+   the carriageway, shoulder with its strip, strip, and the least that widening
+   leaves of the inner shoulder with its strip. The crown slope is 20 per mille;
+   least radius, least length and added slope are those above.
 
      II   3500  3000  750  1500
      III  3500  2500  500  1500
@@ -257,9 +258,10 @@ uint32_t pippinterm_check_minsk_card(const int32_t card[PIPPINTERM_CARD_NUMBERS]
  * The road is crowned at 20 per mille up to station length x radius / 2000 less the
  * first stage, which is half the carriageway x 8 long; through it the outer edge
  * climbs at 5 per mille until the slope is 20 per mille; from there the slope goes
- * in a straight line to the full slope at the clothoid's end. The widening starts
- * 20 m before length x radius / 500, has grown there to all of it, in a straight
- * line, and narrows the inner shoulder.
+ * in a straight line to the full slope at the clothoid's end. The inner slope is
+ * never below 20 per mille. The widening starts 20 m before length x radius / 500,
+ * has grown there to all of it, in a straight line, stays so to the clothoid's end,
+ * and narrows the inner shoulder.
  * Gives 0 for an accepted card: *count is then the count of rows, at most 301,
  * and the rows stand in the table from its start, nine numbers each, at the
  * stations of pippinterm_fill_table. The table's numbers after the last row are as

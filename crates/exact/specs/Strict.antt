@@ -1,4 +1,4 @@
--- Two exact heights at two exact stations, where a line climbs all the way: what a method whose outer edge is nowhere level promises of it.
+-- Two exact heights at two exact stations between which a line climbs all the way: what a method promises of its outer edge there.
 -- Assumes nothing.
 use Rattle.std.specs.Prelude.{◌↔◌, ℕ, ◌<◌}
 use Rattle.exact.specs.Exact.{Exact, whole, ◌⊖◌, ◌⊗◌, ◌≼◌, ◌≺◌, ◌≈◌}

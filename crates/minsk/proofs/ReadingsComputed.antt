@@ -60,6 +60,7 @@ halfway_readings =
       centimetres_below = refl;
       centimetres_above = refl;
       centimetres_widening = refl;
+      millimetres_widening = refl;
       millimetres_both_sides = refl;
       centimetres_at_end = refl;
       axis_millimetres = refl;

@@ -83,7 +83,7 @@ edges =
     edge (card 2 1 450 130000 21 1000 20000 10) 0 ∷
     edge (card 3 2 2000 300000 21 0 20000 10) 36 ∷
     edge (card 3 2 1999 300000 21 0 20000 10) 0 ∷
-    -- 37, first stage: longer than L × R / 2000, which is 28 m for II and III and 24 m for IV
+    -- 37, first stage: longer than L × R / 2000; it is 28 m long for II and III and 24 m for IV
     edge (card 1 1 280 200000 40 700 20000 10) 0 ∷
     edge (card 1 1 280 199999 40 0 20000 10) 37 ∷
     edge (card 1 1 279 200000 40 0 20000 10) 37 ∷
@@ -103,6 +103,7 @@ edges =
     edge (card 3 1 450 130001 45 0 20000 10) 0 ∷
     edge (card 3 1 450 130010 45 1 20000 10) 0 ∷
     edge (card 3 1 449 130001 45 1 20000 10) 38 ∷
+    edge (card 3 1 450 130005 45 1 20000 10) 38 ∷
     -- 8, added slope: h × (v − 20) above added slope × (L − L × R / 2000)
     edge (card 1 1 1600 140000 60 0 20000 10) 0 ∷
     edge (card 1 1 1600 139999 60 0 20000 10) 8 ∷

@@ -127,6 +127,9 @@ pub record HalfwayReadings : Type 0 where
   -- halfway: widening, inner edge, inner strip, inner brow
   pub centimetres_widening : row_at (card 2 1 300 200000 60 3500 20000 10) 115000
       ≡ pos 115000 ∷ pos 262 ∷ pos 0 ∷ pos 14 ∷ pos 16 ∷ pos 24 ∷ neg_ℤ (pos 25) ∷ neg_ℤ (pos 27) ∷ neg_ℤ (pos 31) ∷ []
+  -- halfway: widening, outer edge
+  pub millimetres_widening : row_at (card 3 1 400 120000 45 1 20000 1) 86000
+      ≡ pos 86000 ∷ pos 1 ∷ pos 0 ∷ pos 108 ∷ pos 127 ∷ pos 181 ∷ neg_ℤ (pos 108) ∷ neg_ℤ (pos 127) ∷ neg_ℤ (pos 187) ∷ []
   -- halfway: outer edge, outer brow, inner edge
   pub millimetres_both_sides : row_at (card 3 1 400 120000 45 1000 20000 1) 72000
       ≡ pos 72000 ∷ pos 0 ∷ pos 0 ∷ pos 98 ∷ pos 114 ∷ pos 163 ∷ neg_ℤ (pos 97) ∷ neg_ℤ (pos 114) ∷ neg_ℤ (pos 174) ∷ []

@@ -29,7 +29,7 @@ too_steep added x = not (at_most (whole (x.h * (x.v - crown))) (whole added ⊗ 
 -- the reasons of this method
 abbrev pub method_tests : Card → List Test
 method_tests card =
-    -- method: the handbook has no such runoff
+    -- method: it is for II, III and IV, v above 20 and R below 2000
     test 36 (not_for card) ∷
     -- first stage
     test 37 (too_long (section_of card)) ∷

@@ -7,7 +7,7 @@ ghost use Rattle.minsk.specs.Reckoning.{widths_in};
 use crate::widths::Widths;
 use card::Card;
 
-// A full slope of 20, a radius of 2000 or the profiles of category V: the handbook has no such runoff.
+// A full slope of 20, a radius of 2000 or the profiles of category V: the method is not for these.
 pub(crate) fn is_not_for(card: Card) -> bool
     ensures { result ≡ not_for card }
 {

@@ -6,9 +6,11 @@ use native.Mathlib.Nat.{mul-le-mul_left, mul-le-mul_right}
 use native.Mathlib.Decide.{dec_le}
 use native.Mathlib.Omega.{arith}
 use Rattle.exact.specs.Exact.{Exact, whole, minus, ◌≼◌, ◌≈◌}
-use Rattle.exact.proofs.Is.{is_frac, is_one, is_minus, is_sub, is_lt, is_eq, is_le}
+use Rattle.exact.specs.Parts.{Is}
+use Rattle.exact.proofs.Order.{above}
+use Rattle.exact.proofs.Is.{is_frac, is_one, is_minus, is_sub, is_lt, is_eq, is_le, le_is, station_is}
 use Rattle.exact.proofs.Pieces.{piece_exactly}
-use Rattle.minsk_section.specs.Lines.{Section, On, stage_start, stage_end, outer_slope, widening, inner_shoulder, outer_edge, Premises}
+use Rattle.minsk_section.specs.Lines.{Section, On, stage_start, stage_end, outer_slope, wide_start, wide_end, widening, inner_shoulder, outer_edge, Premises}
 use Rattle.minsk_section.specs.Turning.{TurnsTheorem}
 use Rattle.minsk_section.proofs.Slopes.{first_slope_lem, second_slope_lem}
 use Rattle.minsk_section.proofs.Widenings.{wide_start_is, growing_is, none_is, grows_is, full_is}
@@ -50,6 +52,53 @@ module _ {x : Section} (ok : Premises x) where
           is_eq (grows_is x (growth ok) (is_one x.L) 9999999 (omega (arith, (growth ok).way)) (omega arith)) (is_one x.W) (omega arith)
       go (no h) (no k) _ = is_eq (full_is x (growth ok) (is_one x.L) (omega arith)) (is_one x.W) (omega arith)
 
+  -- where there is a widening, it grows between stations
+  wide_start_on : 0 < x.W → On x (wide_start x)
+  wide_start_on some =
+      record {
+        fraction = omega arith;
+        from = is_le (is_one 0) (wide_start_is x (growth ok)) (omega arith);
+        to = is_le (wide_start_is x (growth ok)) (is_one x.L) (omega (arith, mul-le-mul_left x.L (ok.near some)));
+      }
+
+  wide_end_on : 0 < x.W → On x (wide_end x)
+  wide_end_on some =
+      record {
+        fraction = omega arith;
+        from = is_le (is_one 0) (growth ok).end (omega arith);
+        to = is_le (growth ok).end (is_one x.L) (omega (arith, mul-le-mul_left x.L (ok.near some)));
+      }
+
+  -- there is none up to its start, and all of it from its end on
+  module _ (s : Exact) (on : On x s) where
+    here : Is s (above s) 0 s.den
+    here = station_is on.fraction on.from
+
+    unwidened : s ≼ wide_start x → widening x s ≈ whole 0
+    unwidened h =
+        is_eq (none_is x (growth ok) here (omega (arith, le_is here (wide_start_is x (growth ok)) h))) (is_one 0) (omega arith)
+
+    stays : wide_end x ≼ s → widening x s ≈ whole x.W
+    stays h = go (dec_le (500 * above s) (N x * s.den))
+      where
+        way : N x * s.den ≡ G ok * s.den + 10000000 * s.den
+        way = omega (arith, ap (λ (k : ℕ). k * s.den) (growth ok).way)
+
+        past : N x * s.den ≤ 500 * above s
+        past = omega (arith, le_is (growth ok).end here h)
+
+        n : ℕ
+        n = 10000000 * s.den - 1
+
+        n_is : suc n ≡ 10000000 * s.den
+        n_is = omega (arith, on.fraction)
+
+        go : Dec (500 * above s ≤ N x * s.den) → widening x s ≈ whole x.W
+        go (yes k) =
+            is_eq (grows_is x (growth ok) here n (omega (arith, way, past, k, n_is)) (omega (arith, n_is))) (is_one x.W)
+            (omega (arith, ap (λ (i : ℕ). x.W * i) n_is))
+        go (no k) = is_eq (full_is x (growth ok) here (omega arith)) (is_one x.W) (omega arith)
+
   -- at 0 nothing is widened
   shoulder_starts : inner_shoulder x (whole 0) ≈ whole x.c
   shoulder_starts =
@@ -88,6 +137,11 @@ turns x ok =
       all_there =
           is_eq (growing_is x (growth ok) (growth ok).end (20000 * (500 * 500)) (omega (arith, (growth ok).way))) (is_one x.W) (omega arith);
       widened = widened_end ok;
+      widening_length = is_eq (is_sub (growth ok).end (wide_start_is x (growth ok))) (is_one 20000) (omega (arith, (growth ok).way));
+      wide_start_on = wide_start_on ok;
+      wide_end_on = wide_end_on ok;
+      unwidened = unwidened ok;
+      stays = stays ok;
       shoulder_starts = shoulder_starts ok;
       shoulder_least = shoulder_least ok;
       shoulder_most = shoulder_most ok;

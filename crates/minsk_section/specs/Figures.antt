@@ -71,6 +71,10 @@ pub record Figures : Type 0 where
   pub second_end :
       Are second (whole 200000)
       (whole 60 ∷ whole 1500 ∷ whole 1500 ∷ whole 0 ∷ whole 210000 ∷ whole 255000 ∷ whole 390000 ∷ minus 300000 ∷ minus 345000 ∷ minus 390000 ∷ [])
+  -- the same bend with W 2000: past 160 m the shoulder is the least, 1500
+  pub second_least :
+      Are (card 1 2 400 200000 60 2000 20000 10) (whole 180000)
+      (whole 55 ∷ whole 2000 ∷ whole 1500 ∷ whole 0 ∷ whole 192500 ∷ whole 233750 ∷ whole 357500 ∷ minus 302500 ∷ minus 343750 ∷ minus 385000 ∷ [])
   -- III, from 2 m to 30 m and from 100 m to 120 m: half of W, 2000, is all that the shoulder gives; at L the lane comes to the shoulder's 40‰
   pub third_crowned :
       Are third (whole 0)
@@ -81,6 +85,9 @@ pub record Figures : Type 0 where
   pub third_between :
       Are third (whole 65000)
       (frac 70 3 ∷ whole 0 ∷ whole 2500 ∷ whole 0 ∷ frac 245000 3 ∷ frac 280000 3 ∷ whole 140000 ∷ ratio 0 245000 3 ∷ ratio 0 280000 3 ∷ ratio 0 520000 3 ∷ [])
+  pub third_narrowing :
+      Are third (whole 105000)
+      (frac 190 7 ∷ whole 500 ∷ whole 2000 ∷ whole 0 ∷ whole 95000 ∷ frac 760000 7 ∷ frac 1140000 7 ∷ ratio 0 760000 7 ∷ ratio 0 855000 7 ∷ ratio 0 1275000 7 ∷ [])
   pub third_widening :
       Are third (whole 110000)
       (frac 580 21 ∷ whole 1000 ∷ whole 1500 ∷ whole 0 ∷ frac 290000 3 ∷ frac 2320000 21 ∷ frac 1160000 7 ∷ ratio 0 870000 7 ∷ ratio 0 2900000 21 ∷ ratio 0 3740000 21 ∷ [])
@@ -139,3 +146,13 @@ pub record Figures : Type 0 where
   pub example_joint :
       Are example (whole 42000)
       (whole 20 ∷ whole 0 ∷ whole 3000 ∷ whole 0 ∷ whole 70000 ∷ whole 85000 ∷ whole 130000 ∷ minus 70000 ∷ minus 85000 ∷ minus 175000 ∷ [])
+  -- the handbook's example 2.2, IV, R 400, L 140000, v 40, W 500: its first stage lies from 4 m to 28 m, its widening grows from 92 m to 112 m
+  pub fourth_example_crowned :
+      Are (card 3 1 400 140000 40 500 20000 10) (whole 4000)
+      (minus 20 ∷ whole 0 ∷ whole 2000 ∷ whole 0 ∷ minus 60000 ∷ minus 70000 ∷ minus 100000 ∷ minus 60000 ∷ minus 70000 ∷ minus 130000 ∷ [])
+  pub fourth_example_rising :
+      Are (card 3 1 400 140000 40 500 20000 10) (whole 9500)
+      (ratio 0 65 6 ∷ whole 0 ∷ whole 2000 ∷ whole 0 ∷ minus 32500 ∷ ratio 0 113750 3 ∷ ratio 0 162500 3 ∷ minus 60000 ∷ minus 70000 ∷ minus 130000 ∷ [])
+  pub fourth_example_widening :
+      Are (card 3 1 400 140000 40 500 20000 10) (whole 100000)
+      (frac 230 7 ∷ whole 200 ∷ whole 1800 ∷ whole 0 ∷ frac 690000 7 ∷ whole 115000 ∷ frac 1150000 7 ∷ ratio 0 736000 7 ∷ ratio 0 851000 7 ∷ ratio 0 1215000 7 ∷ [])

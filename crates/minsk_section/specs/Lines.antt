@@ -90,10 +90,6 @@ widening x s = cond (at_most s (wide_start x)) (whole 0) (cond (at_most s (wide_
 unfoldable pub inner_shoulder : Section → Exact → Exact
 inner_shoulder x s = greater (whole x.m) (whole x.c ⊖ widening x s)
 
--- ".. the inner shoulder beyond the strip at 40‰ or the inner slope, whichever is greater."
-unfoldable pub shoulder_slope : Section → Exact → Exact
-shoulder_slope x s = greater (whole 40) (inner_slope x s)
-
 -- "Seven lines are reckoned from the axis, which is 0, .."
 abbrev pub axis : Exact
 axis = whole 0
@@ -109,6 +105,10 @@ outer_strip x s = outer_edge x s ⊕ whole x.t ⊗ outer_slope x s
 -- ".. the outer shoulder too; ..": c is the shoulder with its strip
 unfoldable pub outer_brow : Section → Exact → Exact
 outer_brow x s = outer_edge x s ⊕ whole x.c ⊗ outer_slope x s
+
+-- ".. the inner shoulder beyond the strip at 40‰ or the inner slope, whichever is greater."
+unfoldable pub shoulder_slope : Section → Exact → Exact
+shoulder_slope x s = greater (whole 40) (inner_slope x s)
 
 -- the inner edge is the axis less (h + widening) times the inner slope
 unfoldable pub inner_edge : Section → Exact → Exact

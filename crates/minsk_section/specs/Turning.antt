@@ -1,6 +1,6 @@
 -- Document 02, Slip 7: that every line is a fraction, and that slope, widening and shoulder go as the request words them.
 -- Assumes nothing.
-use Rattle.std.specs.Prelude.{ℕ, ◌*◌}
+use Rattle.std.specs.Prelude.{ℕ, ◌*◌, ◌<◌}
 use Rattle.exact.specs.Exact.{Exact, whole, minus, ◌⊖◌, ◌⊗◌, ◌≼◌, ◌≺◌, ◌≈◌}
 use Rattle.minsk_section.specs.Lines.{Section, On, crown, stage_start, stage_end, first_length, first_slope, second_slope, outer_slope, wide_start, wide_end, growing, widening, inner_shoulder, outer_edge, Fractions, Premises}
 
@@ -28,6 +28,12 @@ pub record Turning (x : Section) : Type 0 where
   pub none_yet : growing x (wide_start x) ≈ whole 0
   pub all_there : growing x (wide_end x) ≈ whole x.W
   pub widened : widening x (whole x.L) ≈ whole x.W
+  -- it grows over 20 m, and between stations, where there is a widening; up to its start there is none, from its end on all of it
+  pub widening_length : wide_end x ⊖ wide_start x ≈ whole 20000
+  pub wide_start_on : 0 < x.W → On x (wide_start x)
+  pub wide_end_on : 0 < x.W → On x (wide_end x)
+  pub unwidened : (s : Exact) → On x s → s ≼ wide_start x → widening x s ≈ whole 0
+  pub stays : (s : Exact) → On x s → wide_end x ≼ s → widening x s ≈ whole x.W
   -- the inner shoulder with its strip has c where nothing is widened, and keeps its least, which is no narrower than the strip
   pub shoulder_starts : inner_shoulder x (whole 0) ≈ whole x.c
   pub shoulder_least : (s : Exact) → On x s → whole x.m ≼ inner_shoulder x s

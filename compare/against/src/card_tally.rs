@@ -1,151 +1,36 @@
 //! Sorts of cards, by what is lent and what is due.
 
 use crate::card_case::CardCase;
-use crate::cards::{Numbers, GRADE, HEIGHT, MARK, UNIT};
-use crate::tally::is_halfway;
-use paper::card::{Datum, GREATEST_GRADE, GREATEST_HEIGHT, GREATEST_LENGTH};
-use paper::card::{LEAST_GRADE, LEAST_HEIGHT};
-use paper::fraction::{whole, Fraction};
-use paper::rows::tie;
+use crate::cards::{HEIGHT, MARK};
+use crate::seen_card::{Exact, Seen, CM, MM};
+use paper::card::{GREATEST_GRADE, GREATEST_HEIGHT, LEAST_GRADE, LEAST_HEIGHT};
+use paper::fraction::Fraction;
 use paper::section::{Course, Runoff};
-use paper::{stations, Card};
+use paper::Card;
 
 /// Numbers in a row.
 const ROW: usize = 7;
-/// Only tables of so few rows are looked into, number by number.
-const FEW_ROWS: usize = 40;
-/// Units, in mm.
-const MM: u32 = 1;
-const CM: u32 = 10;
 
-/// A card as its sorts see it.
-pub struct Seen<'a> {
-    numbers: &'a Numbers,
-    card: Card,
-    reply: u32,
-    table: usize,
-    rows: &'a [i32],
-    rounded: Rounded,
-}
-
-/// What the rounded numbers in the rows of a card show.
-#[derive(Clone, Copy, Default)]
-struct Rounded {
-    /// Of some heights of an absolute card, the axis and the distance from it, each rounded by itself, would make
-    /// another number.
-    otherwise_apart: bool,
-    /// Some heights stand halfway between two numbers, above nought and below it.
-    halfway: [bool; 2],
-    /// Some widening does.
-    widening_halfway: bool,
-}
-
-impl Rounded {
-    fn new(card: &Card, rows: &[i32]) -> Rounded {
-        let (runoff, unit) = (Runoff::new(card), whole(1000 * card.unit));
-        let in_units = |height: Fraction| (height / unit).nearest(tie(card.unit));
-        let is_absolute = card.datum != Datum::Relative;
-        let mut rounded = Rounded::default();
-        for (station, row) in stations(card).into_iter().zip(rows.chunks_exact(ROW)) {
-            let at = whole(station);
-            let widening = runoff.widening(at) / whole(card.unit);
-            rounded.widening_halfway |= is_halfway(widening, row[1]);
-            let axis = runoff.axis(at);
-            for (line, &number) in runoff.lines(at).into_iter().zip(&row[2..]) {
-                let is_below = usize::from(line < whole(0));
-                rounded.halfway[is_below] |= is_halfway(line / unit, number);
-                let is_otherwise = || number != in_units(axis) + in_units(line - axis);
-                rounded.otherwise_apart |= is_absolute && is_otherwise();
-            }
-        }
-        rounded
+/// The exact numbers by 503-0-45, station by station.
+fn exact(card: &Card) -> impl Fn(Fraction) -> Exact<5> {
+    let runoff = Runoff::new(card);
+    move |at| Exact {
+        widening: runoff.widening(at),
+        axis: runoff.axis(at),
+        lines: runoff.lines(at),
     }
 }
 
-impl<'a> Seen<'a> {
-    pub fn new(case: &'a CardCase) -> Seen<'a> {
-        let card = Card::new(&case.card);
-        let rows = ROW * case.due.count.numbers()[0] as usize;
-        let is_short = (1..=ROW * FEW_ROWS).contains(&rows);
-        let rows = &case.due.table.numbers()[..rows];
-        Seen {
-            numbers: &case.card,
-            card,
-            reply: case.due.reply,
-            table: case.due.table.numbers().len(),
-            rows,
-            rounded: if is_short {
-                Rounded::new(&card, rows)
-            } else {
-                Rounded::default()
-            },
-        }
-    }
+/// The card as its sorts see it.
+pub fn seen(case: &CardCase) -> Seen<'_> {
+    Seen::new(case, exact, |_| ())
+}
 
-    fn height(&self) -> i32 {
-        self.numbers[HEIGHT]
-    }
-
-    fn grade(&self) -> i32 {
-        self.numbers[GRADE]
-    }
-
-    fn is_absolute(&self) -> bool {
-        self.card.datum != Datum::Relative
-    }
-
-    /// Rows came for an absolute card.
-    fn has_heights(&self) -> bool {
-        self.reply == 0 && self.is_absolute()
-    }
-
-    /// Rows came for a relative card.
-    fn is_relative(&self) -> bool {
-        self.reply == 0 && !self.is_absolute()
-    }
-
-    fn is_outside(&self) -> bool {
-        !(LEAST_HEIGHT..=GREATEST_HEIGHT).contains(&self.height())
-    }
-
-    fn is_too_steep(&self) -> bool {
-        !(LEAST_GRADE..=GREATEST_GRADE).contains(&self.grade())
-    }
-
-    /// The height lies within, but is no whole number of units.
-    fn has_parts_of_a_unit(&self) -> bool {
-        !self.is_outside() && self.height() % self.numbers[UNIT] != 0
-    }
-
-    /// The table is too short for the rows of a card whose eight numbers are right.
-    fn is_short(&self) -> bool {
-        self.table < ROW * stations(&self.card).len()
-    }
-
+impl Seen<'_> {
     /// Some row has such a height.
     fn any_height(&self, is_so: fn(i32) -> bool) -> bool {
-        let mut rows = self.rows.chunks_exact(ROW);
+        let mut rows = self.rows.clone();
         rows.any(|row| row[2..].iter().any(|&height| is_so(height)))
-    }
-
-    /// Some height stands halfway above nought, in that unit.
-    fn is_halfway_above(&self, unit: u32) -> bool {
-        self.card.unit == unit && self.rounded.halfway[0]
-    }
-
-    /// Some height stands halfway below nought, in that unit.
-    fn is_halfway_below(&self, unit: u32) -> bool {
-        self.card.unit == unit && self.rounded.halfway[1]
-    }
-
-    /// Some widening stands halfway, in that unit.
-    fn is_widened_halfway(&self, unit: u32) -> bool {
-        self.card.unit == unit && self.rounded.widening_halfway
-    }
-
-    /// One of the eight, below 0, is what refuses the card.
-    fn is_below_0(&self, place: usize, reason: u32) -> bool {
-        self.reply == reason && self.numbers[place] < 0
     }
 }
 
@@ -221,14 +106,10 @@ pub const SORTS: [(&str, IsOfSort); 56] = [
         card.has_heights() && card.grade() > 0
     }),
     ("limits on the longest clothoid", |card| {
-        let limits = |low, high, n| n == low || n == high;
-        let height = limits(LEAST_HEIGHT, GREATEST_HEIGHT, card.height());
-        let grade = limits(LEAST_GRADE, GREATEST_GRADE, card.grade());
-        card.has_heights() && card.card.length == GREATEST_LENGTH && height && grade
+        card.is_longest_at_limits()
     }),
     ("a grade, and a last step cut", |card| {
-        let is_cut = |card: &Card| !card.length.is_multiple_of(card.step);
-        card.has_heights() && card.grade() != 0 && is_cut(&card.card)
+        card.has_grade_and_cut_step()
     }),
     ("heights above and below nought", |card| {
         card.has_heights() && card.any_height(|n| n < 0) && card.any_height(|n| n > 0)
@@ -291,8 +172,12 @@ pub const SORTS: [(&str, IsOfSort); 56] = [
         let both = card.is_outside() && card.is_too_steep();
         card.reply == 10 && card.is_absolute() && both
     }),
-    ("34 before 11", |card| card.reply == 34 && card.is_short()),
-    ("35 before 11", |card| card.reply == 35 && card.is_short()),
+    ("34 before 11", |card| {
+        card.reply == 34 && card.is_short(ROW)
+    }),
+    ("35 before 11", |card| {
+        card.reply == 35 && card.is_short(ROW)
+    }),
     ("11 of an absolute card", |card| {
         card.reply == 11 && card.is_absolute()
     }),
@@ -308,7 +193,7 @@ pub const SORTS: [(&str, IsOfSort); 56] = [
 
 #[cfg(test)]
 mod tests {
-    use super::{Seen, SORTS};
+    use super::{seen, SORTS};
     use crate::card_case::{library, with_table, BY_503};
     use crate::cards::Numbers;
     use crate::seeded::Seeded;
@@ -323,7 +208,7 @@ mod tests {
     fn sorts(card: Numbers, table_length: usize) -> String {
         let mut seeded = Seeded::new(1, 1, 1);
         let case = with_table(&BY_503, card, table_length, library, &mut seeded);
-        let seen = Seen::new(&case);
+        let seen = seen(&case);
         let met = SORTS.iter().filter(|(_, is_of_sort)| is_of_sort(&seen));
         let names: Vec<_> = met.map(|(name, _)| *name).collect();
         names.join("; ")

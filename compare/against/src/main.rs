@@ -28,6 +28,7 @@ mod radii;
 mod radius_case;
 mod read_back;
 mod seeded;
+mod seen_card;
 mod tally;
 mod words;
 mod work;

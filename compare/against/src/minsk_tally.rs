@@ -1,31 +1,25 @@
 //! What was met among the cards for the handbook's method: their replies, and sorts of them by what is lent and what is due.
 
 use crate::card_case::{self, CardAnswer, CardCase, CLASSES};
-use crate::cards::{Numbers, GRADE, HEIGHT, MARK, UNIT};
+use crate::cards::{Numbers, HEIGHT, MARK};
 use crate::minsk_cards;
 use crate::minsk_case::ROW;
-use crate::tally::{add_altered, add_numbers, is_halfway, Altered};
-use paper::card::{Datum, GREATEST_GRADE, GREATEST_HEIGHT, GREATEST_LENGTH};
-use paper::card::{LEAST_GRADE, LEAST_HEIGHT};
+use crate::seen_card::{self, Exact, CM, MM};
+use crate::tally::{add_altered, add_numbers, Altered};
+use paper::card::{GREATEST_GRADE, GREATEST_HEIGHT, GREATEST_LENGTH, LEAST_GRADE, LEAST_HEIGHT};
 use paper::fraction::{fraction, whole, Fraction};
 use paper::minsk::{first_stage_end, first_stage_length, road_of, widening_end, Banking, Road};
-use paper::rows::tie;
 use paper::{check_card, check_minsk_card, stations, Card};
 
 pub const MINSK_KINDS: usize = minsk_cards::KINDS.len();
 /// 36, 37 and 38 come "in that order after 7", which never occurs (document 02, Slips 1 and 7).
 pub const MINSK_REPLIES: [u32; 16] = [0, 1, 2, 3, 4, 5, 6, 36, 37, 38, 8, 9, 10, 34, 35, 11];
 
-/// Only tables of so few rows are looked into, number by number.
-const FEW_ROWS: usize = 40;
 /// No card has more.
 const MOST_ROWS: usize = 301;
-/// Units, in mm.
-const MM: u32 = 1;
-const CM: u32 = 10;
 
 /// What an accepted card shows besides its numbers.
-struct Shown {
+pub struct Shown {
     road: Road,
     /// In mm: where the first stage and the growth of the widening begin and end.
     first_stage: [Fraction; 2],
@@ -46,6 +40,11 @@ impl Shown {
         })
     }
 
+    /// What a widening can take of the inner shoulder.
+    fn spare(&self) -> u32 {
+        self.road.shoulder - self.road.least_shoulder
+    }
+
     /// Some row stands there.
     fn any_row(&self, is_there: impl Fn(Fraction) -> bool) -> bool {
         self.stations
@@ -58,93 +57,28 @@ impl Shown {
     }
 }
 
-/// What the rounded numbers in the rows of a card show.
-#[derive(Clone, Copy, Default)]
-struct Rounded {
-    /// Of some heights of an absolute card, the axis and the distance from it, each rounded by itself, would make
-    /// another number.
-    otherwise_apart: bool,
-    /// Some heights stand halfway between two numbers, above nought and below it.
-    halfway: [bool; 2],
-    /// Some widening does.
-    widening_halfway: bool,
-}
-
-impl Rounded {
-    fn new(card: &Card, rows: &[i32]) -> Rounded {
-        let (banking, unit) = (Banking::new(card), whole(1000 * card.unit));
-        let in_units = |height: Fraction| (height / unit).nearest(tie(card.unit));
-        let is_absolute = card.datum != Datum::Relative;
-        let mut rounded = Rounded::default();
-        for (station, row) in stations(card).into_iter().zip(rows.chunks_exact(ROW)) {
-            let at = whole(station);
-            let widening = banking.widening(at) / whole(card.unit);
-            rounded.widening_halfway |= is_halfway(widening, row[1]);
-            let axis = banking.axis(at);
-            for (line, &number) in banking.lines(at).into_iter().zip(&row[2..]) {
-                let is_below = usize::from(line < whole(0));
-                rounded.halfway[is_below] |= is_halfway(line / unit, number);
-                let is_otherwise = || number != in_units(axis) + in_units(line - axis);
-                rounded.otherwise_apart |= is_absolute && is_otherwise();
-            }
-        }
-        rounded
+/// The exact numbers by the handbook, station by station.
+fn exact(card: &Card) -> impl Fn(Fraction) -> Exact<7> {
+    let banking = Banking::new(card);
+    move |at| Exact {
+        widening: banking.widening(at),
+        axis: banking.axis(at),
+        lines: banking.lines(at),
     }
 }
 
-/// A card as its sorts see it.
-pub struct Seen<'a> {
-    numbers: &'a Numbers,
-    card: Card,
-    reply: u32,
-    table: usize,
-    rows: usize,
-    /// Of an accepted card.
-    shown: Option<Shown>,
-    rounded: Rounded,
+/// A card as its sorts see it; of an accepted one more is shown.
+pub type Seen<'a> = seen_card::Seen<'a, Option<Shown>>;
+
+/// The card as its sorts see it.
+fn seen(case: &CardCase) -> Seen<'_> {
+    let is_accepted = case.due.count.numbers()[0] > 0;
+    Seen::new(case, exact, |card| {
+        is_accepted.then(|| Shown::new(card)).flatten()
+    })
 }
 
-impl<'a> Seen<'a> {
-    pub fn new(case: &'a CardCase) -> Seen<'a> {
-        let card = Card::new(&case.card);
-        let rows = case.due.count.numbers()[0] as usize;
-        let mut rounded = Rounded::default();
-        if (1..=FEW_ROWS).contains(&rows) {
-            rounded = Rounded::new(&card, case.due.table.numbers());
-        }
-        Seen {
-            numbers: &case.card,
-            card,
-            reply: case.due.reply,
-            table: case.due.table.numbers().len(),
-            rows,
-            shown: (rows > 0).then(|| Shown::new(&card)).flatten(),
-            rounded,
-        }
-    }
-
-    fn height(&self) -> i32 {
-        self.numbers[HEIGHT]
-    }
-
-    fn grade(&self) -> i32 {
-        self.numbers[GRADE]
-    }
-
-    fn is_absolute(&self) -> bool {
-        self.card.datum != Datum::Relative
-    }
-
-    /// Rows came for an absolute card.
-    fn has_heights(&self) -> bool {
-        self.reply == 0 && self.is_absolute()
-    }
-
-    /// Rows came for a relative card.
-    fn is_relative(&self) -> bool {
-        self.reply == 0 && !self.is_absolute()
-    }
-
+impl Seen<'_> {
     /// Rows came, and this holds.
     fn shows(&self, is_so: impl Fn(&Shown) -> bool) -> bool {
         self.shown.as_ref().is_some_and(is_so)
@@ -153,44 +87,6 @@ impl<'a> Seen<'a> {
     /// Rows came for a card with a widening, and this holds.
     fn grows(&self, is_so: impl Fn(&Shown) -> bool) -> bool {
         self.card.full_widening > 0 && self.shows(is_so)
-    }
-
-    fn is_outside(&self) -> bool {
-        !(LEAST_HEIGHT..=GREATEST_HEIGHT).contains(&self.height())
-    }
-
-    fn is_too_steep(&self) -> bool {
-        !(LEAST_GRADE..=GREATEST_GRADE).contains(&self.grade())
-    }
-
-    /// The height lies within, but is no whole number of units.
-    fn has_parts_of_a_unit(&self) -> bool {
-        !self.is_outside() && self.height() % self.numbers[UNIT] != 0
-    }
-
-    /// The table is too short for the rows of a card whose eight numbers are right, at so many numbers a row.
-    fn is_short(&self, row: usize) -> bool {
-        self.table < row * stations(&self.card).len()
-    }
-
-    /// Some height stands halfway above nought, in that unit.
-    fn is_halfway_above(&self, unit: u32) -> bool {
-        self.card.unit == unit && self.rounded.halfway[0]
-    }
-
-    /// Some height stands halfway below nought, in that unit.
-    fn is_halfway_below(&self, unit: u32) -> bool {
-        self.card.unit == unit && self.rounded.halfway[1]
-    }
-
-    /// Some widening stands halfway, in that unit.
-    fn is_widened_halfway(&self, unit: u32) -> bool {
-        self.card.unit == unit && self.rounded.widening_halfway
-    }
-
-    /// One of the eight, below 0, is what refuses the card.
-    fn is_below_0(&self, place: usize, reason: u32) -> bool {
-        self.reply == reason && self.numbers[place] < 0
     }
 
     /// The card's own reason when this is done to its numbers.
@@ -278,29 +174,21 @@ pub const SORTS: [(&str, IsOfSort); 107] = [
         card.has_heights() && card.grade() < 0
     }),
     ("limits on the longest clothoid", |card| {
-        let limits = |low, high, n| n == low || n == high;
-        let height = limits(LEAST_HEIGHT, GREATEST_HEIGHT, card.height());
-        let grade = limits(LEAST_GRADE, GREATEST_GRADE, card.grade());
-        card.has_heights() && card.card.length == GREATEST_LENGTH && height && grade
+        card.is_longest_at_limits()
     }),
     ("limits on it, and a widening", |card| {
-        let limits = |low, high, n| n == low || n == high;
-        let height = limits(LEAST_HEIGHT, GREATEST_HEIGHT, card.height());
-        let grade = limits(LEAST_GRADE, GREATEST_GRADE, card.grade());
-        let is_longest = card.has_heights() && card.card.length == GREATEST_LENGTH;
-        is_longest && height && grade && card.card.full_widening > 0
+        card.is_longest_at_limits() && card.card.full_widening > 0
     }),
     ("longest, R to 200, a widening", |card| {
         card.grows(|_| card.card.length == GREATEST_LENGTH && card.card.radius <= 200)
     }),
     ("a grade, and a last step cut", |card| {
-        let is_cut = |card: &Card| !card.length.is_multiple_of(card.step);
-        card.has_heights() && card.grade() != 0 && is_cut(&card.card)
+        card.has_grade_and_cut_step()
     }),
     ("a last step whole", |card| {
         card.reply == 0 && card.card.length.is_multiple_of(card.card.step)
     }),
-    ("301 rows", |card| card.rows == MOST_ROWS),
+    ("301 rows", |card| card.rows.len() == MOST_ROWS),
     ("a row within the crowned part", |card| {
         card.shows(|shown| shown.any_row_within([whole(0), shown.first_stage[0]]))
     }),
@@ -388,22 +276,21 @@ pub const SORTS: [(&str, IsOfSort); 107] = [
         card.grows(|shown| shown.growth[0] == whole(76_000))
     }),
     ("W below c - m", |card| {
-        let spare = |road: &Road| road.shoulder - road.least_shoulder;
-        card.grows(|shown| card.card.full_widening < spare(&shown.road))
+        card.grows(|shown| card.card.full_widening < shown.spare())
     }),
     ("W c - m", |card| {
-        let spare = |road: &Road| road.shoulder - road.least_shoulder;
-        card.grows(|shown| card.card.full_widening == spare(&shown.road))
+        card.grows(|shown| card.card.full_widening == shown.spare())
     }),
     ("kept at m", |card| {
-        let spare = |road: &Road| road.shoulder - road.least_shoulder;
-        card.grows(|shown| card.card.full_widening > spare(&shown.road))
+        card.grows(|shown| card.card.full_widening > shown.spare())
     }),
     ("kept at m within the growth", |card| {
         card.grows(|shown| {
-            let spare = shown.road.shoulder - shown.road.least_shoulder;
             let [start, end] = shown.growth;
-            let share = fraction(i128::from(spare), i128::from(card.card.full_widening));
+            let share = fraction(
+                i128::from(shown.spare()),
+                i128::from(card.card.full_widening),
+            );
             let kept = start + whole(20_000) * share;
             shown.any_row_within([kept, end])
         })
@@ -585,8 +472,8 @@ impl MinskTally {
         }
         self.classes[kind][case.class] += 1;
         self.numbers += case.due.numbers_compared();
-        let seen = Seen::new(case);
-        self.rows += seen.rows as u64;
+        let seen = seen(case);
+        self.rows += seen.rows.len() as u64;
         let sorts = SORTS.map(|(_, is_of_sort)| u64::from(is_of_sort(&seen)));
         add_numbers(&mut self.sorts, &sorts);
     }
@@ -611,7 +498,7 @@ impl MinskTally {
 
 #[cfg(test)]
 mod tests {
-    use super::{MinskTally, Seen, SORTS};
+    use super::{seen, MinskTally, SORTS};
     use crate::card_case::{with_table, CardCase};
     use crate::cards::Numbers;
     use crate::minsk_case::{library, BY_THE_HANDBOOK};
@@ -633,7 +520,7 @@ mod tests {
     /// The sorts of the card, one after another.
     fn sorts(card: Numbers, table_length: usize) -> String {
         let case = case(card, table_length);
-        let seen = Seen::new(&case);
+        let seen = seen(&case);
         let met = SORTS.iter().filter(|(_, is_of_sort)| is_of_sort(&seen));
         let names: Vec<_> = met.map(|(name, _)| *name).collect();
         names.join("; ")

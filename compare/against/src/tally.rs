@@ -163,7 +163,7 @@ impl Tally {
             add_numbers(&mut self.sorts[case.card[0] as usize - 1], &sorts);
         }
         if kind != FROM_A_BOOK {
-            let seen = card_tally::Seen::new(case);
+            let seen = card_tally::seen(case);
             let sorts = CARD_SORTS.map(|(_, is_of_sort)| u64::from(is_of_sort(&seen)));
             add_numbers(&mut self.card_sorts, &sorts);
         }

@@ -212,6 +212,13 @@ fn ruled(loan: &mut Loan, rules: &Rules) -> [u32; 2] {
     numbers
 }
 
+/// The right program, but for what is changed in its rules.
+fn ruled_by(loan: &mut Loan, change: fn(&mut Rules)) -> [u32; 2] {
+    let mut rules = RIGHT;
+    change(&mut rules);
+    ruled(loan, &rules)
+}
+
 /// The right program, and then this done to each row.
 fn with_rows(loan: &mut Loan, change: fn(&Card, &mut [i32])) -> [u32; 2] {
     let numbers = right(loan);
@@ -226,199 +233,124 @@ fn with_rows(loan: &mut Loan, change: fn(&Card, &mut [i32])) -> [u32; 2] {
 /// Wrong as to the first and the second stage.
 const WRONG_STAGES: [(&str, Call); 16] = [
     ("the first stage at 3‰", |loan| {
-        let outer_slope = |at: &At| at.slope_by(at.h(), 3, at.place_of(2000));
-        ruled(
-            loan,
-            &Rules {
-                outer_slope,
-                ..RIGHT
-            },
-        )
+        ruled_by(loan, |rules| {
+            rules.outer_slope = |at| at.slope_by(at.h(), 3, at.place_of(2000));
+        })
     }),
     ("the first stage at 10‰", |loan| {
-        let outer_slope = |at: &At| at.slope_by(at.h(), 10, at.place_of(2000));
-        ruled(
-            loan,
-            &Rules {
-                outer_slope,
-                ..RIGHT
-            },
-        )
+        ruled_by(loan, |rules| {
+            rules.outer_slope = |at| at.slope_by(at.h(), 10, at.place_of(2000));
+        })
     }),
     ("the slope itself climbs by 5‰ a metre", |loan| {
-        let outer_slope = |at: &At| at.slope_by(whole(1000), 5, at.place_of(2000));
-        ruled(
-            loan,
-            &Rules {
-                outer_slope,
-                ..RIGHT
-            },
-        )
+        ruled_by(loan, |rules| {
+            rules.outer_slope = |at| at.slope_by(whole(1000), 5, at.place_of(2000));
+        })
     }),
     ("the first stage by 503-0-45's half carriageway", |loan| {
-        let outer_slope = |at: &At| {
-            let half = profile(at.card.profile).map_or(0, |profile| profile.half);
-            at.slope_by(whole(half), 5, at.place_of(2000))
-        };
-        ruled(
-            loan,
-            &Rules {
-                outer_slope,
-                ..RIGHT
-            },
-        )
+        ruled_by(loan, |rules| {
+            rules.outer_slope = |at| {
+                let half = profile(at.card.profile).map_or(0, |profile| profile.half);
+                at.slope_by(whole(half), 5, at.place_of(2000))
+            };
+        })
     }),
     ("the first stage ends at L × R / 1000", |loan| {
-        let outer_slope = |at: &At| {
-            let end = at.place_of(1000).min(at.length() - whole(1));
-            at.slope_by(at.h(), 5, end)
-        };
-        ruled(
-            loan,
-            &Rules {
-                outer_slope,
-                ..RIGHT
-            },
-        )
+        ruled_by(loan, |rules| {
+            rules.outer_slope = |at| {
+                let end = at.place_of(1000).min(at.length() - whole(1));
+                at.slope_by(at.h(), 5, end)
+            };
+        })
     }),
     ("the first stage starts at L × R / 2000", |loan| {
-        let outer_slope = |at: &At| {
-            let end = at.place_of(2000) + at.stage_length(5);
-            at.slope_by(at.h(), 5, end.min(at.length() - whole(1)))
-        };
-        ruled(
-            loan,
-            &Rules {
-                outer_slope,
-                ..RIGHT
-            },
-        )
+        ruled_by(loan, |rules| {
+            rules.outer_slope = |at| {
+                let end = at.place_of(2000) + at.stage_length(5);
+                at.slope_by(at.h(), 5, end.min(at.length() - whole(1)))
+            };
+        })
     }),
     ("the first stage from station 0", |loan| {
-        let outer_slope = |at: &At| at.slope_by(at.h(), 5, at.stage_length(5));
-        ruled(
-            loan,
-            &Rules {
-                outer_slope,
-                ..RIGHT
-            },
-        )
+        ruled_by(loan, |rules| {
+            rules.outer_slope = |at| at.slope_by(at.h(), 5, at.stage_length(5));
+        })
     }),
     ("the road crowned up to L × R / 2000", |loan| {
-        let outer_slope = |at: &At| match at.station < at.place_of(2000) {
-            true => whole(-20),
-            false => at.slope_by(at.h(), 5, at.place_of(2000)),
-        };
-        ruled(
-            loan,
-            &Rules {
-                outer_slope,
-                ..RIGHT
-            },
-        )
+        ruled_by(loan, |rules| {
+            rules.outer_slope = |at| match at.station < at.place_of(2000) {
+                true => whole(-20),
+                false => at.slope_by(at.h(), 5, at.place_of(2000)),
+            };
+        })
     }),
     ("level before the first stage", |loan| {
-        let outer_slope = |at: &At| {
-            let start = at.place_of(2000) - at.stage_length(5);
-            match at.station < start {
-                true => whole(0),
-                false => at.slope_by(at.h(), 5, at.place_of(2000)),
-            }
-        };
-        ruled(
-            loan,
-            &Rules {
-                outer_slope,
-                ..RIGHT
-            },
-        )
+        ruled_by(loan, |rules| {
+            rules.outer_slope = |at| {
+                let start = at.place_of(2000) - at.stage_length(5);
+                match at.station < start {
+                    true => whole(0),
+                    false => at.slope_by(at.h(), 5, at.place_of(2000)),
+                }
+            };
+        })
     }),
     ("the joint to a whole mm", |loan| {
-        let outer_slope = |at: &At| {
-            let end = at.place_of(2000).nearest(Lower);
-            at.slope_by(at.h(), 5, whole(end))
-        };
-        ruled(
-            loan,
-            &Rules {
-                outer_slope,
-                ..RIGHT
-            },
-        )
+        ruled_by(loan, |rules| {
+            rules.outer_slope = |at| {
+                let end = at.place_of(2000).nearest(Lower);
+                at.slope_by(at.h(), 5, whole(end))
+            };
+        })
     }),
     ("the joint to a whole metre", |loan| {
-        let outer_slope = |at: &At| {
-            let end = (at.place_of(2000) / whole(1000)).nearest(Lower);
-            at.slope_by(at.h(), 5, whole(1000 * end))
-        };
-        ruled(
-            loan,
-            &Rules {
-                outer_slope,
-                ..RIGHT
-            },
-        )
+        ruled_by(loan, |rules| {
+            rules.outer_slope = |at| {
+                let end = (at.place_of(2000) / whole(1000)).nearest(Lower);
+                at.slope_by(at.h(), 5, whole(1000 * end))
+            };
+        })
     }),
     ("rows in the first stage by the second", |loan| {
-        let outer_slope = |at: &At| {
-            let end = at.place_of(2000);
-            let share = (at.station - end) / (at.length() - end);
-            let second = whole(20) + (at.v() - whole(20)) * share;
-            match at.station <= end - at.stage_length(5) {
-                true => whole(-20),
-                false => second,
-            }
-        };
-        ruled(
-            loan,
-            &Rules {
-                outer_slope,
-                ..RIGHT
-            },
-        )
+        ruled_by(loan, |rules| {
+            rules.outer_slope = |at| {
+                let end = at.place_of(2000);
+                let share = (at.station - end) / (at.length() - end);
+                let second = whole(20) + (at.v() - whole(20)) * share;
+                match at.station <= end - at.stage_length(5) {
+                    true => whole(-20),
+                    false => second,
+                }
+            };
+        })
     }),
     ("one stage from -20 to v", |loan| {
-        let outer_slope = |at: &At| {
-            let start = at.place_of(2000) - at.stage_length(5);
-            let share = (at.station - start) / (at.length() - start);
-            whole(-20) + (at.v() + whole(20)) * share.max(whole(0))
-        };
-        ruled(
-            loan,
-            &Rules {
-                outer_slope,
-                ..RIGHT
-            },
-        )
+        ruled_by(loan, |rules| {
+            rules.outer_slope = |at| {
+                let start = at.place_of(2000) - at.stage_length(5);
+                let share = (at.station - start) / (at.length() - start);
+                whole(-20) + (at.v() + whole(20)) * share.max(whole(0))
+            };
+        })
     }),
     ("the second stage goes on at 5‰", |loan| {
-        let outer_slope = |at: &At| {
-            let past = whole(5) * (at.station - at.place_of(2000)) / at.h();
-            (whole(20) + past).max(whole(-20)).min(at.v())
-        };
-        ruled(
-            loan,
-            &Rules {
-                outer_slope,
-                ..RIGHT
-            },
-        )
+        ruled_by(loan, |rules| {
+            rules.outer_slope = |at| {
+                let past = whole(5) * (at.station - at.place_of(2000)) / at.h();
+                (whole(20) + past).max(whole(-20)).min(at.v())
+            };
+        })
     }),
     ("the second stage's share of the whole clothoid", |loan| {
-        let outer_slope = |at: &At| match at.station <= at.place_of(2000) {
-            true => at.slope_by(at.h(), 5, at.place_of(2000)),
-            false => {
-                let share = (at.station - at.place_of(2000)) / at.length();
-                whole(20) + (at.v() - whole(20)) * share
-            }
-        };
-        ruled(
-            loan,
-            &Rules {
-                outer_slope,
-                ..RIGHT
-            },
-        )
+        ruled_by(loan, |rules| {
+            rules.outer_slope = |at| match at.station <= at.place_of(2000) {
+                true => at.slope_by(at.h(), 5, at.place_of(2000)),
+                false => {
+                    let share = (at.station - at.place_of(2000)) / at.length();
+                    whole(20) + (at.v() - whole(20)) * share
+                }
+            };
+        })
     }),
     ("II as wide as III", |loan| {
         with_card(loan, |card| card[PROFILE] = card[PROFILE].max(2))
@@ -428,291 +360,201 @@ const WRONG_STAGES: [(&str, Call); 16] = [
 /// Wrong as to the widening.
 const WRONG_WIDENINGS: [(&str, Call); 12] = [
     ("the widening starts at L × R / 500", |loan| {
-        let widening = |at: &At| {
-            let start = at.place_of(500);
-            at.full_widening() * at.share_of(start, start + whole(20_000))
-        };
-        ruled(loan, &Rules { widening, ..RIGHT })
+        ruled_by(loan, |rules| {
+            rules.widening = |at| {
+                let start = at.place_of(500);
+                at.full_widening() * at.share_of(start, start + whole(20_000))
+            };
+        })
     }),
     ("the widening over 10 m", |loan| {
-        let widening = |at: &At| {
-            let full = at.place_of(500);
-            at.full_widening() * at.share_of(full - whole(10_000), full)
-        };
-        ruled(loan, &Rules { widening, ..RIGHT })
+        ruled_by(loan, |rules| {
+            rules.widening = |at| {
+                let full = at.place_of(500);
+                at.full_widening() * at.share_of(full - whole(10_000), full)
+            };
+        })
     }),
     ("from 20 m before over 10 m", |loan| {
-        let widening = |at: &At| {
-            let start = at.place_of(500) - whole(20_000);
-            at.full_widening() * at.share_of(start, start + whole(10_000))
-        };
-        ruled(loan, &Rules { widening, ..RIGHT })
+        ruled_by(loan, |rules| {
+            rules.widening = |at| {
+                let start = at.place_of(500) - whole(20_000);
+                at.full_widening() * at.share_of(start, start + whole(10_000))
+            };
+        })
     }),
     ("the widening about L × R / 500", |loan| {
-        let widening = |at: &At| {
-            let middle = at.place_of(500);
-            at.full_widening() * at.share_of(middle - whole(10_000), middle + whole(10_000))
-        };
-        ruled(loan, &Rules { widening, ..RIGHT })
+        ruled_by(loan, |rules| {
+            rules.widening = |at| {
+                let middle = at.place_of(500);
+                at.full_widening() * at.share_of(middle - whole(10_000), middle + whole(10_000))
+            };
+        })
     }),
     ("W × d / L", |loan| {
-        let widening = |at: &At| at.full_widening() * at.station / at.length();
-        ruled(loan, &Rules { widening, ..RIGHT })
+        ruled_by(loan, |rules| {
+            rules.widening = |at| at.full_widening() * at.station / at.length();
+        })
     }),
     ("the widening grows on to L", |loan| {
-        let widening = |at: &At| {
-            let start = at.place_of(500) - whole(20_000);
-            at.full_widening() * at.share_of(start, at.length())
-        };
-        ruled(loan, &Rules { widening, ..RIGHT })
+        ruled_by(loan, |rules| {
+            rules.widening = |at| {
+                let start = at.place_of(500) - whole(20_000);
+                at.full_widening() * at.share_of(start, at.length())
+            };
+        })
     }),
     ("the last 20 m of the clothoid widen", |loan| {
-        let widening = |at: &At| {
-            let start = at.length() - whole(20_000);
-            at.full_widening() * at.share_of(start, at.length())
-        };
-        ruled(loan, &Rules { widening, ..RIGHT })
+        ruled_by(loan, |rules| {
+            rules.widening = |at| {
+                let start = at.length() - whole(20_000);
+                at.full_widening() * at.share_of(start, at.length())
+            };
+        })
     }),
     ("W at once", |loan| {
-        let widening = |at: &At| match at.station < at.place_of(500) - whole(20_000) {
-            true => whole(0),
-            false => at.full_widening(),
-        };
-        ruled(loan, &Rules { widening, ..RIGHT })
+        ruled_by(loan, |rules| {
+            rules.widening = |at| match at.station < at.place_of(500) - whole(20_000) {
+                true => whole(0),
+                false => at.full_widening(),
+            };
+        })
     }),
     ("no W past L × R / 500", |loan| {
-        let widening = |at: &At| match at.station > at.place_of(500) {
-            true => whole(0),
-            false => (RIGHT.widening)(at),
-        };
-        ruled(loan, &Rules { widening, ..RIGHT })
+        ruled_by(loan, |rules| {
+            rules.widening = |at| match at.station > at.place_of(500) {
+                true => whole(0),
+                false => (RIGHT.widening)(at),
+            };
+        })
     }),
     ("below nought before it starts", |loan| {
-        let widening = |at: &At| {
-            let start = at.place_of(500) - whole(20_000);
-            let share = (at.station - start) / whole(20_000);
-            at.full_widening() * share.min(whole(1))
-        };
-        ruled(loan, &Rules { widening, ..RIGHT })
+        ruled_by(loan, |rules| {
+            rules.widening = |at| {
+                let start = at.place_of(500) - whole(20_000);
+                let share = (at.station - start) / whole(20_000);
+                at.full_widening() * share.min(whole(1))
+            };
+        })
     }),
     ("the widening outward, and not inward", |loan| {
-        let inner_half = |at: &At, _| at.h();
-        ruled(
-            loan,
-            &Rules {
-                inner_half,
-                ..RIGHT
-            },
-        )
+        ruled_by(loan, |rules| {
+            rules.inner_half = |at, _| at.h();
+        })
     }),
     ("half of it inward", |loan| {
-        let inner_half = |at: &At, widening| at.h() + widening / whole(2);
-        ruled(
-            loan,
-            &Rules {
-                inner_half,
-                ..RIGHT
-            },
-        )
+        ruled_by(loan, |rules| {
+            rules.inner_half = |at, widening| at.h() + widening / whole(2);
+        })
     }),
 ];
 
 /// Wrong as to strips and shoulders.
 const WRONG_SHOULDERS: [(&str, Call); 18] = [
     ("the inner strip at 40‰", |loan| {
-        let inner_strip_slope = |_: &At, inner: Fraction| inner.max(whole(40));
-        ruled(
-            loan,
-            &Rules {
-                inner_strip_slope,
-                ..RIGHT
-            },
-        )
+        ruled_by(loan, |rules| {
+            rules.inner_strip_slope = |_, inner| inner.max(whole(40));
+        })
     }),
     ("the inner strip at 20‰", |loan| {
-        let inner_strip_slope = |_: &At, _| whole(20);
-        ruled(
-            loan,
-            &Rules {
-                inner_strip_slope,
-                ..RIGHT
-            },
-        )
+        ruled_by(loan, |rules| {
+            rules.inner_strip_slope = |_, _| whole(20);
+        })
     }),
     ("the outer strip at 40‰", |loan| {
-        let outer_strip_slope = |_: &At, outer: Fraction| outer.max(whole(40));
-        ruled(
-            loan,
-            &Rules {
-                outer_strip_slope,
-                ..RIGHT
-            },
-        )
+        ruled_by(loan, |rules| {
+            rules.outer_strip_slope = |_, outer| outer.max(whole(40));
+        })
     }),
     ("the outer shoulder at 40‰", |loan| {
-        let outer_shoulder_slope = |_: &At, _| whole(-40);
-        ruled(
-            loan,
-            &Rules {
-                outer_shoulder_slope,
-                ..RIGHT
-            },
-        )
+        ruled_by(loan, |rules| {
+            rules.outer_shoulder_slope = |_, _| whole(-40);
+        })
     }),
     ("the outer shoulder at 40‰ while crowned", |loan| {
-        let outer_shoulder_slope = |_: &At, outer: Fraction| match outer < whole(0) {
-            true => outer.min(whole(-40)),
-            false => outer,
-        };
-        ruled(
-            loan,
-            &Rules {
-                outer_shoulder_slope,
-                ..RIGHT
-            },
-        )
+        ruled_by(loan, |rules| {
+            rules.outer_shoulder_slope = |_, outer| match outer < whole(0) {
+                true => outer.min(whole(-40)),
+                false => outer,
+            };
+        })
     }),
     ("the outer strip crowned until the joint", |loan| {
-        let outer_strip_slope = |at: &At, outer| match at.station < at.place_of(2000) {
-            true => whole(-20),
-            false => outer,
-        };
-        ruled(
-            loan,
-            &Rules {
-                outer_strip_slope,
-                ..RIGHT
-            },
-        )
+        ruled_by(loan, |rules| {
+            rules.outer_strip_slope = |at, outer| match at.station < at.place_of(2000) {
+                true => whole(-20),
+                false => outer,
+            };
+        })
     }),
     ("the inner shoulder at 40‰ always", |loan| {
-        let inner_shoulder_slope = |_: &At, _| whole(40);
-        ruled(
-            loan,
-            &Rules {
-                inner_shoulder_slope,
-                ..RIGHT
-            },
-        )
+        ruled_by(loan, |rules| {
+            rules.inner_shoulder_slope = |_, _| whole(40);
+        })
     }),
     ("the inner shoulder at the inner slope always", |loan| {
-        let inner_shoulder_slope = |_: &At, inner| inner;
-        ruled(
-            loan,
-            &Rules {
-                inner_shoulder_slope,
-                ..RIGHT
-            },
-        )
+        ruled_by(loan, |rules| {
+            rules.inner_shoulder_slope = |_, inner| inner;
+        })
     }),
     ("the inner shoulder of IV at 50‰", |loan| {
-        let inner_shoulder_slope = |at: &At, inner: Fraction| {
-            let slope = profile(at.card.profile).map_or(0, |profile| profile.shoulder_slope);
-            inner.max(whole(slope))
-        };
-        ruled(
-            loan,
-            &Rules {
-                inner_shoulder_slope,
-                ..RIGHT
-            },
-        )
+        ruled_by(loan, |rules| {
+            rules.inner_shoulder_slope = |at, inner| {
+                let slope = profile(at.card.profile).map_or(0, |profile| profile.shoulder_slope);
+                inner.max(whole(slope))
+            };
+        })
     }),
     ("the inner slope turns from the start", |loan| {
-        let inner_slope = |_: &At, outer| outer;
-        ruled(
-            loan,
-            &Rules {
-                inner_slope,
-                ..RIGHT
-            },
-        )
+        ruled_by(loan, |rules| {
+            rules.inner_slope = |_, outer| outer;
+        })
     }),
     ("the inner slope 20‰ always", |loan| {
-        let inner_slope = |_: &At, _| whole(20);
-        ruled(
-            loan,
-            &Rules {
-                inner_slope,
-                ..RIGHT
-            },
-        )
+        ruled_by(loan, |rules| {
+            rules.inner_slope = |_, _| whole(20);
+        })
     }),
     ("the least without the strip", |loan| {
-        let inner_shoulder = |at: &At, widening| {
-            let beyond = at.shoulder() - at.strip() - widening;
-            at.strip() + beyond.max(at.least_shoulder())
-        };
-        ruled(
-            loan,
-            &Rules {
-                inner_shoulder,
-                ..RIGHT
-            },
-        )
+        ruled_by(loan, |rules| {
+            rules.inner_shoulder = |at, widening| {
+                let beyond = at.shoulder() - at.strip() - widening;
+                at.strip() + beyond.max(at.least_shoulder())
+            };
+        })
     }),
     ("the shoulder not kept", |loan| {
-        let inner_shoulder = |at: &At, widening| at.shoulder() - widening;
-        ruled(
-            loan,
-            &Rules {
-                inner_shoulder,
-                ..RIGHT
-            },
-        )
+        ruled_by(loan, |rules| {
+            rules.inner_shoulder = |at, widening| at.shoulder() - widening;
+        })
     }),
     ("the shoulder kept at its strip", |loan| {
-        let inner_shoulder = |at: &At, widening| (at.shoulder() - widening).max(at.strip());
-        ruled(
-            loan,
-            &Rules {
-                inner_shoulder,
-                ..RIGHT
-            },
-        )
+        ruled_by(loan, |rules| {
+            rules.inner_shoulder = |at, widening| (at.shoulder() - widening).max(at.strip());
+        })
     }),
     ("1000 kept for III", |loan| {
-        let inner_shoulder = |at: &At, widening| {
-            let least = if at.card.profile == 1 { 1500 } else { 1000 };
-            (at.shoulder() - widening).max(whole(least))
-        };
-        ruled(
-            loan,
-            &Rules {
-                inner_shoulder,
-                ..RIGHT
-            },
-        )
+        ruled_by(loan, |rules| {
+            rules.inner_shoulder = |at, widening| {
+                let least = if at.card.profile == 1 { 1500 } else { 1000 };
+                (at.shoulder() - widening).max(whole(least))
+            };
+        })
     }),
     ("1500 kept for IV", |loan| {
-        let inner_shoulder = |at: &At, widening| (at.shoulder() - widening).max(whole(1500));
-        ruled(
-            loan,
-            &Rules {
-                inner_shoulder,
-                ..RIGHT
-            },
-        )
+        ruled_by(loan, |rules| {
+            rules.inner_shoulder = |at, widening| (at.shoulder() - widening).max(whole(1500));
+        })
     }),
     ("the shoulder not narrowed", |loan| {
-        let inner_shoulder = |at: &At, _| at.shoulder();
-        ruled(
-            loan,
-            &Rules {
-                inner_shoulder,
-                ..RIGHT
-            },
-        )
+        ruled_by(loan, |rules| {
+            rules.inner_shoulder = |at, _| at.shoulder();
+        })
     }),
     ("the strip added to the shoulder", |loan| {
-        let inner_shoulder = |at: &At, widening| (RIGHT.inner_shoulder)(at, widening) + at.strip();
-        ruled(
-            loan,
-            &Rules {
-                inner_shoulder,
-                ..RIGHT
-            },
-        )
+        ruled_by(loan, |rules| {
+            rules.inner_shoulder = |at, widening| (RIGHT.inner_shoulder)(at, widening) + at.strip();
+        })
     }),
 ];
 
@@ -737,38 +579,44 @@ fn axis_of(at: &At, axis: impl Fn(Fraction, Fraction) -> Fraction) -> Fraction {
 /// Wrong as to the axis, to rounding and to the places in a row.
 const WRONG_ROWS: [(&str, Call); 18] = [
     ("the axis of 503-0-45 added", |loan| {
-        let axis = |at: &At| {
-            let profile = profile(at.card.profile).expect("a profile");
-            let crown = profile.half * profile.crown_slope;
-            (RIGHT.axis)(at) + whole(profile.shoulder * profile.shoulder_slope + crown)
-        };
-        ruled(loan, &Rules { axis, ..RIGHT })
+        ruled_by(loan, |rules| {
+            rules.axis = |at| {
+                let profile = profile(at.card.profile).expect("a profile");
+                let crown = profile.half * profile.crown_slope;
+                (RIGHT.axis)(at) + whole(profile.shoulder * profile.shoulder_slope + crown)
+            };
+        })
     }),
     ("the grade lost", |loan| {
-        let axis = |at: &At| axis_of(at, |height, _| height);
-        ruled(loan, &Rules { axis, ..RIGHT })
+        ruled_by(loan, |rules| {
+            rules.axis = |at| axis_of(at, |height, _| height);
+        })
     }),
     ("the height lost", |loan| {
-        let axis = |at: &At| axis_of(at, |_, climb| climb);
-        ruled(loan, &Rules { axis, ..RIGHT })
+        ruled_by(loan, |rules| {
+            rules.axis = |at| axis_of(at, |_, climb| climb);
+        })
     }),
     ("the grade's sign lost", |loan| {
-        let axis = |at: &At| axis_of(at, |height, climb| height + climb.max(-climb));
-        ruled(loan, &Rules { axis, ..RIGHT })
+        ruled_by(loan, |rules| {
+            rules.axis = |at| axis_of(at, |height, climb| height + climb.max(-climb));
+        })
     }),
     ("every card relative", |loan| {
-        let axis = |_: &At| whole(0);
-        ruled(loan, &Rules { axis, ..RIGHT })
+        ruled_by(loan, |rules| {
+            rules.axis = |_| whole(0);
+        })
     }),
     ("the grade from the first stage on", |loan| {
-        let axis = |at: &At| {
-            let start = at.place_of(2000) - at.stage_length(5);
-            axis_of(at, |height, climb| match at.station < start {
-                true => height,
-                false => height + climb,
-            })
-        };
-        ruled(loan, &Rules { axis, ..RIGHT })
+        ruled_by(loan, |rules| {
+            rules.axis = |at| {
+                let start = at.place_of(2000) - at.stage_length(5);
+                axis_of(at, |height, climb| match at.station < start {
+                    true => height,
+                    false => height + climb,
+                })
+            };
+        })
     }),
     ("the axis rounded apart", |loan| {
         let numbers = right(loan);
@@ -790,22 +638,19 @@ const WRONG_ROWS: [(&str, Call); 18] = [
         numbers
     }),
     ("halfway to the lower number", |loan| {
-        let tie = |_: &At, _| Lower;
-        ruled(loan, &Rules { tie, ..RIGHT })
+        ruled_by(loan, |rules| {
+            rules.tie = |_, _| Lower;
+        })
     }),
     ("halfway to the higher number", |loan| {
-        let tie = |_: &At, _| Higher;
-        ruled(loan, &Rules { tie, ..RIGHT })
+        ruled_by(loan, |rules| {
+            rules.tie = |_, _| Higher;
+        })
     }),
     ("the units exchanged", |loan| {
-        let swapped = |at: &At, _| other(tie(at.card.unit));
-        ruled(
-            loan,
-            &Rules {
-                tie: swapped,
-                ..RIGHT
-            },
-        )
+        ruled_by(loan, |rules| {
+            rules.tie = |at, _| other(tie(at.card.unit));
+        })
     }),
     ("columns in the order of 503-0-45", |loan| {
         with_rows(loan, |_, row| {
@@ -850,11 +695,12 @@ const WRONG_ROWS: [(&str, Call); 18] = [
 
 /// Halfway goes where it does not go, at that place in every row.
 fn halfway_wrong_at<const PLACE: usize>(loan: &mut Loan) -> [u32; 2] {
-    let tie = |at: &At, place| match place == PLACE {
-        true => other(tie(at.card.unit)),
-        false => tie(at.card.unit),
-    };
-    ruled(loan, &Rules { tie, ..RIGHT })
+    ruled_by(loan, |rules| {
+        rules.tie = |at, place| match place == PLACE {
+            true => other(tie(at.card.unit)),
+            false => tie(at.card.unit),
+        };
+    })
 }
 
 /// Halfway is wrong in one number of a row alone, in either unit.
@@ -872,14 +718,19 @@ const WRONG_HALVES: [(&str, Call); 8] = [
 /// One of the reasons, or 0.
 type Reason = fn(&Card) -> u32;
 
-/// 36, 37, 38 and 8, in the words of whole numbers.
-fn method(card: &Card) -> u32 {
-    let is_other = card.full_slope == 20 || card.radius == 2000 || card.profile > 3;
-    if is_other {
-        36
+/// That reason where it applies, else 0.
+fn reason_if(applies: bool, reason: u32) -> u32 {
+    if applies {
+        reason
     } else {
         0
     }
+}
+
+/// 36, 37, 38 and 8, in the words of whole numbers.
+fn method(card: &Card) -> u32 {
+    let is_other = card.full_slope == 20 || card.radius == 2000 || card.profile > 3;
+    reason_if(is_other, 36)
 }
 
 fn half(card: &Card) -> u64 {
@@ -891,20 +742,12 @@ fn length_by_radius(card: &Card) -> u64 {
 }
 
 fn first_stage(card: &Card) -> u32 {
-    if 16_000 * half(card) > length_by_radius(card) {
-        37
-    } else {
-        0
-    }
+    reason_if(16_000 * half(card) > length_by_radius(card), 37)
 }
 
 fn widening_place(card: &Card) -> u32 {
     let no_place = card.radius > 500 || !length_by_radius(card).is_multiple_of(500);
-    if card.full_widening > 0 && no_place {
-        38
-    } else {
-        0
-    }
+    reason_if(card.full_widening > 0 && no_place, 38)
 }
 
 fn added(card: &Card) -> u64 {
@@ -914,11 +757,7 @@ fn added(card: &Card) -> u64 {
 
 /// 8 where that climb, in micrometres, is above what that length, in two-thousandths of a mm, allows.
 fn too_steep(card: &Card, climb: u64, length: u64) -> u32 {
-    if 2000 * climb > added(card) * length {
-        8
-    } else {
-        0
-    }
+    reason_if(2000 * climb > added(card) * length, 8)
 }
 
 fn second_stage(card: &Card) -> u64 {
@@ -983,11 +822,7 @@ const WRONG_REASONS: [(&str, Call); 27] = [
     ("R 2000 passes", |loan| {
         reasoned_by(loan, METHOD, |card| {
             let is_other = card.full_slope == 20 || card.profile > 3;
-            if is_other {
-                36
-            } else {
-                0
-            }
+            reason_if(is_other, 36)
         })
     }),
     ("R 1999 refused", |loan| {
@@ -999,11 +834,7 @@ const WRONG_REASONS: [(&str, Call); 27] = [
     ("full slope 20 passes", |loan| {
         reasoned_by(loan, METHOD, |card| {
             let is_other = card.radius == 2000 || card.profile > 3;
-            if is_other {
-                36
-            } else {
-                0
-            }
+            reason_if(is_other, 36)
         })
     }),
     ("full slope 21 refused", |loan| {
@@ -1049,57 +880,33 @@ const WRONG_REASONS: [(&str, Call); 27] = [
     ("37 by 503-0-45's half carriageway", |loan| {
         reasoned_by(loan, FIRST_STAGE, |card| {
             let half = profile(card.profile).map_or(0, |profile| u64::from(profile.half));
-            if 16_000 * half > length_by_radius(card) {
-                37
-            } else {
-                0
-            }
+            reason_if(16_000 * half > length_by_radius(card), 37)
         })
     }),
     ("37 for a first stage just as long", |loan| {
         reasoned_by(loan, FIRST_STAGE, |card| {
-            if 16_000 * half(card) >= length_by_radius(card) {
-                37
-            } else {
-                0
-            }
+            reason_if(16_000 * half(card) >= length_by_radius(card), 37)
         })
     }),
     ("37 by whole mm", |loan| {
         reasoned_by(loan, FIRST_STAGE, |card| {
             let end = length_by_radius(card).div_ceil(2000);
-            if 8 * half(card) > end {
-                37
-            } else {
-                0
-            }
+            reason_if(8 * half(card) > end, 37)
         })
     }),
     ("37 against the clothoid", |loan| {
         reasoned_by(loan, FIRST_STAGE, |card| {
-            if 8 * half(card) > u64::from(card.length) {
-                37
-            } else {
-                0
-            }
+            reason_if(8 * half(card) > u64::from(card.length), 37)
         })
     }),
     ("37 against L × R / 1000", |loan| {
         reasoned_by(loan, FIRST_STAGE, |card| {
-            if 8000 * half(card) > length_by_radius(card) {
-                37
-            } else {
-                0
-            }
+            reason_if(8000 * half(card) > length_by_radius(card), 37)
         })
     }),
     ("37 by a first stage at 3‰", |loan| {
         reasoned_by(loan, FIRST_STAGE, |card| {
-            if 80_000 * half(card) > 3 * length_by_radius(card) {
-                37
-            } else {
-                0
-            }
+            reason_if(80_000 * half(card) > 3 * length_by_radius(card), 37)
         })
     }),
     ("a first stage that is too long begins at 0", |loan| {
@@ -1108,11 +915,7 @@ const WRONG_REASONS: [(&str, Call); 27] = [
     ("R 500 refused", |loan| {
         reasoned_by(loan, WIDENING_PLACE, |card| {
             let no_place = card.radius >= 500 || !length_by_radius(card).is_multiple_of(500);
-            if card.full_widening > 0 && no_place {
-                38
-            } else {
-                0
-            }
+            reason_if(card.full_widening > 0 && no_place, 38)
         })
     }),
     ("R 501 passes", |loan| {
@@ -1124,11 +927,7 @@ const WRONG_REASONS: [(&str, Call); 27] = [
     ("a widening with R up to 1000", |loan| {
         reasoned_by(loan, WIDENING_PLACE, |card| {
             let no_place = !length_by_radius(card).is_multiple_of(500);
-            if card.full_widening > 0 && no_place {
-                38
-            } else {
-                0
-            }
+            reason_if(card.full_widening > 0 && no_place, 38)
         })
     }),
     ("38 without widening too", |loan| {
@@ -1141,31 +940,19 @@ const WRONG_REASONS: [(&str, Call); 27] = [
     }),
     ("a place at parts of a mm passes", |loan| {
         reasoned_by(loan, WIDENING_PLACE, |card| {
-            if card.full_widening > 0 && card.radius > 500 {
-                38
-            } else {
-                0
-            }
+            reason_if(card.full_widening > 0 && card.radius > 500, 38)
         })
     }),
     ("a whole number of metres wanted", |loan| {
         reasoned_by(loan, WIDENING_PLACE, |card| {
             let no_place = card.radius > 500 || !length_by_radius(card).is_multiple_of(500_000);
-            if card.full_widening > 0 && no_place {
-                38
-            } else {
-                0
-            }
+            reason_if(card.full_widening > 0 && no_place, 38)
         })
     }),
     ("L × R / 2000 wanted whole", |loan| {
         reasoned_by(loan, WIDENING_PLACE, |card| {
             let no_place = card.radius > 500 || !length_by_radius(card).is_multiple_of(2000);
-            if card.full_widening > 0 && no_place {
-                38
-            } else {
-                0
-            }
+            reason_if(card.full_widening > 0 && no_place, 38)
         })
     }),
     ("W 1 passes anywhere", |loan| {
@@ -1189,20 +976,12 @@ const WRONG_REASONS: [(&str, Call); 27] = [
     }),
     ("8 for a slope just as steep", |loan| {
         reasoned_by(loan, STEEPNESS, |card| {
-            if 2000 * climb(card) >= added(card) * second_stage(card) {
-                8
-            } else {
-                0
-            }
+            reason_if(2000 * climb(card) >= added(card) * second_stage(card), 8)
         })
     }),
     ("8 by 5‰ on every road", |loan| {
         reasoned_by(loan, STEEPNESS, |card| {
-            if 2000 * climb(card) > 5 * second_stage(card) {
-                8
-            } else {
-                0
-            }
+            reason_if(2000 * climb(card) > 5 * second_stage(card), 8)
         })
     }),
 ];
@@ -1314,41 +1093,35 @@ const WRONG_ORDER: [(&str, Call); 17] = [
 /// The same rules in other forms.
 const OTHER_FORMS: [(&str, Call); 3] = [
     ("each stage by its own line", |loan| {
-        let outer_slope = |at: &At| {
-            let past = at.station - at.place_of(2000);
-            let first = whole(20) + whole(5) * past / at.h();
-            let share = past / (at.length() - at.place_of(2000));
-            let second = whole(20) + (at.v() - whole(20)) * share;
-            match past > whole(0) {
-                true => second,
-                false => first.max(whole(-20)),
-            }
-        };
-        let rules = Rules {
-            outer_slope,
-            ..RIGHT
-        };
-        ruled(loan, &rules)
+        ruled_by(loan, |rules| {
+            rules.outer_slope = |at| {
+                let past = at.station - at.place_of(2000);
+                let first = whole(20) + whole(5) * past / at.h();
+                let share = past / (at.length() - at.place_of(2000));
+                let second = whole(20) + (at.v() - whole(20)) * share;
+                match past > whole(0) {
+                    true => second,
+                    false => first.max(whole(-20)),
+                }
+            };
+        })
     }),
     ("the widening less what is to come of it", |loan| {
-        let widening = |at: &At| {
-            let to_go = (at.place_of(500) - at.station).max(whole(0));
-            let share = to_go.min(whole(20_000)) / whole(20_000);
-            at.full_widening() - at.full_widening() * share
-        };
-        let rules = Rules { widening, ..RIGHT };
-        ruled(loan, &rules)
+        ruled_by(loan, |rules| {
+            rules.widening = |at| {
+                let to_go = (at.place_of(500) - at.station).max(whole(0));
+                let share = to_go.min(whole(20_000)) / whole(20_000);
+                at.full_widening() - at.full_widening() * share
+            };
+        })
     }),
     ("the shoulder less what it can give", |loan| {
-        let inner_shoulder = |at: &At, widening: Fraction| {
-            let spare = at.shoulder() - at.least_shoulder();
-            at.shoulder() - widening.min(spare)
-        };
-        let rules = Rules {
-            inner_shoulder,
-            ..RIGHT
-        };
-        ruled(loan, &rules)
+        ruled_by(loan, |rules| {
+            rules.inner_shoulder = |at, widening| {
+                let spare = at.shoulder() - at.least_shoulder();
+                at.shoulder() - widening.min(spare)
+            };
+        })
     }),
 ];
 

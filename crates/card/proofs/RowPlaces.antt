@@ -34,7 +34,7 @@ capped true n L e = let h = ltb-true n L e in omega arith
 capped false n L e = let h = ltb-false n L e in omega arith
 
 module _ (L step : ℕ) where
-  station_is_least : (i : ℕ) → station_to L step i ≡ min (i * step) L
+  pub station_is_least : (i : ℕ) → station_to L step i ≡ min (i * step) L
   station_is_least i = capped _ (i * step) L refl
 
   -- no row stands past the end, and no later one before an earlier one

@@ -3,7 +3,6 @@
 use mathlib.Core.Path.{◌≡◌, refl, sym, ap, ap₂, ◌∙◌}
 use mathlib.Core.List.{List, ◌++◌}
 use Prim.Native.Nat.{ℕ, zero, suc, ◌+◌, ◌*◌, ◌-◌, ◌≤◌, ◌<◌}
-use native.Mathlib.Numerals.{add-one}
 use native.Mathlib.Omega.{arith}
 use lib.IntN.{ℤ, pos}
 use lib.ListN.{length, take, drop, get_or}
@@ -45,7 +44,7 @@ module _ (width : ℕ) where
         let none : width * 0 ≡ 0 = omega arith in
         sym (ap₂ (λ (l : List ℤ) (n : ℕ). l ++ drop n old) (joined-none block) none)
 
-    -- one row more, and all of them at once
+    -- one row more, n rows more, and all of them at once
     pub next_written : (i : ℕ) (old : List ℤ) → with_row width i (so_far i old) (block i) ≡ so_far (i + 1) old
     next_written i old = sym (put_is i (so_far i old) (block i)) ∙ next block width wide i old
 
@@ -58,12 +57,18 @@ module _ (width : ℕ) where
         let here : i + 0 ≡ i = omega arith in
         rw (one, here) at wrote ∙ ap₂ (with_row width i) before same ∙ next_written i old
 
-    pub all_on : (f : ℕ → List ℤ) (old : List ℤ) → ((i : ℕ) → f i ≡ block i) → (n : ℕ) → with_rows width f 0 n old ≡ so_far n old
+    pub many_written :
+        (f : ℕ → List ℤ) (old : List ℤ) → ((i : ℕ) → f i ≡ block i) → (i n : ℕ) → with_rows width f i n (so_far i old) ≡ so_far (i + n) old
     unfolding with_rows
-    all_on f old same zero = none_written old
-    all_on f old same (suc n) =
-        let here : 0 + n ≡ n = omega arith in
-        rw here (ap₂ (with_row width n) (all_on f old same n) (same n) ∙ next_written n old ∙ ap (λ (k : ℕ). so_far k old) (add-one n))
+    many_written f old same i zero = ap (λ (k : ℕ). so_far k old) (omega arith)
+    many_written f old same i (suc n) =
+        ap₂ (with_row width (i + n)) (many_written f old same i n) (same (i + n))
+        ∙ next_written (i + n) old
+        ∙ ap (λ (k : ℕ). so_far k old) (omega arith)
+
+    pub all_on : (f : ℕ → List ℤ) (old : List ℤ) → ((i : ℕ) → f i ≡ block i) → (n : ℕ) → with_rows width f 0 n old ≡ so_far n old
+    all_on f old same n =
+        ap (with_rows width f 0 n) (none_written old) ∙ many_written f old same 0 n ∙ ap (λ (k : ℕ). so_far k old) (omega arith)
 
     -- ---- where `rows` are all of them
     module _ {rows : List ℤ} (count : ℕ) (all : joined block count ≡ rows) where

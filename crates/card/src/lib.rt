@@ -207,7 +207,7 @@ pub fn station_of(end: u32, step: u32, row: u32) -> u64
 }
 
 // Where a halfway value goes: in whole millimetres to the higher number, in centimetres to the lower.
-fn tie_of(unit: u64) -> Tie
+pub fn tie_of(unit: u64) -> Tie
     ensures { tie_of result ≡ tie unit }
 {
     if unit == 1 { Tie::Higher } else { Tie::Lower }

@@ -1,17 +1,18 @@
 -- The slopes at a whole station as the code reckons them, with the bounds of the sums that they go into.
 -- Assumes nothing.
-use mathlib.Core.Path.{◌≡◌, ap}
-use Prim.Native.Nat.{ℕ, ◌+◌, ◌*◌, ◌-◌, ◌≤◌, ◌<◌, max}
+use mathlib.Core.Path.{◌≡◌, refl, ap}
+use Prim.Native.Nat.{ℕ, ◌+◌, ◌*◌, ◌-◌, ◌≤◌, ◌<◌}
 use native.Mathlib.Nat.{mul-le-mul, mul-le-mul_left, mul-le-mul_right}
+use native.Mathlib.Decide.{dec_le}
 use native.Mathlib.Omega.{arith}
+use borrow.Author.Tests.{le-leb, lt-leb}
 use Rattle.exact.specs.Exact.{whole}
 use Rattle.exact.proofs.Is.{is_one, is_as}
 use Rattle.runoff.specs.declared.turning.Slope.{Slope}
-use Rattle.runoff.specs.declared.turning.Slopes.{Slopes}
 use Rattle.runoff.specs.declared.turning.Station.{Station}
-use Rattle.section.specs.Lines.{Section, outer_slope}
-use Rattle.runoff.specs.Reckoning.{section_in, Limits, SlopeIs, SlopesAt}
-use Rattle.section.proofs.Slopes.{even_is, first-is, second_is}
+use Rattle.section.specs.Lines.{Section, joint_num, outer_slope}
+use Rattle.runoff.specs.Reckoning.{section_in, Limits, SlopeIs, SlopesAt, even_parts, first_parts, second_parts, slope_parts, slopes_by, slopes_parts}
+use Rattle.section.proofs.Slopes.{even?, is_even_lem, not_even, even_is, first-is, second_is}
 use Rattle.section.proofs.Heights.{inner_slope_lem, shoulder_slope_lem}
 
 module _ (t : Station) where
@@ -24,9 +25,12 @@ module _ (t : Station) where
   abbrev x : Section
   x = section_in t.runoff
 
+  pub even_are : 3 * x.L ≤ x.h * (x.p + x.v) → even_parts x d ≡ slope_parts x d
+  unfolding slope_parts
+  even_are even = rw (is_even_lem x even) refl
+
   pub even_slope_lem :
-      3 * x.L ≤ x.h * (x.p + x.v) →
-      SlopeIs (outer_slope x (whole d)) (record { up = (x.p + x.v) * d; down = x.p * x.L; over = x.L })
+      3 * x.L ≤ x.h * (x.p + x.v) → SlopeIs (outer_slope x (whole d)) (even_parts x d)
   even_slope_lem even =
       record {
         is = is_as (even_is x (is_one d) z.long even) z.long (omega arith);
@@ -43,8 +47,11 @@ module _ (t : Station) where
     abbrev E : ℕ
     E = 3 * x.L - J
 
-    pub first_slope_lem :
-        3 * d ≤ J → SlopeIs (outer_slope x (whole d)) (record { up = 3 * d; down = x.p * x.h; over = x.h })
+    pub first_are : 3 * d ≤ J → first_parts x d ≡ slope_parts x d
+    unfolding slope_parts
+    first_are j = rw (not_even x two, le-leb (3 * d) J j) refl
+
+    pub first_slope_lem : 3 * d ≤ J → SlopeIs (outer_slope x (whole d)) (first_parts x d)
     first_slope_lem j =
         record {
           is = is_as (first-is x (is_one d) two z.half_least (omega arith)) z.half_least (omega arith);
@@ -64,9 +71,11 @@ module _ (t : Station) where
         let e : x.v - x.p + x.p ≡ x.v = omega (arith, z.turned) in
         omega (arith, ap (λ (n : ℕ). n * E) e, mul-le-mul_right E z.slope_most)
 
-    pub second_slope_lem :
-        J < 3 * d →
-        SlopeIs (outer_slope x (whole d)) (record { up = x.p * E + (x.v - x.p) * (3 * d - J); down = 0; over = E })
+    pub second_are : J < 3 * d → second_parts x d ≡ slope_parts x d
+    unfolding slope_parts
+    second_are j = rw (not_even x two, lt-leb (3 * d) J j) refl
+
+    pub second_slope_lem : J < 3 * d → SlopeIs (outer_slope x (whole d)) (second_parts x d)
     second_slope_lem j =
         record {
           is =
@@ -79,6 +88,15 @@ module _ (t : Station) where
           net = omega (arith, most);
         }
 
+  -- in each stage the outer slope is what its parts are
+  pub slope_lem : SlopeIs (outer_slope x (whole d)) (slope_parts x d)
+  slope_lem = go (even? x) (dec_le (3 * d) (joint_num x))
+    where
+      go : Dec (3 * x.L ≤ x.h * (x.p + x.v)) → Dec (3 * d ≤ joint_num x) → SlopeIs (outer_slope x (whole d)) (slope_parts x d)
+      go (yes e) j = rw (← even_are e) (even_slope_lem e)
+      go (no e) (yes j) = rw (← first_are (omega arith) j) (first_slope_lem (omega arith) j)
+      go (no e) (no j) = rw (← second_are (omega arith) (omega arith)) (second_slope_lem (omega arith) (omega arith))
+
 -- the slopes that go with the outer one
 module _ (t : Station) (s : Slope) (f : SlopeIs (outer_slope (section_in t.runoff) (whole t.d)) s) where
   pub crown_most : t.runoff.crown_slope * s.over ≤ 30 * s.over
@@ -87,18 +105,7 @@ module _ (t : Station) (s : Slope) (f : SlopeIs (outer_slope (section_in t.runof
   pub side_most : t.runoff.shoulder_slope * s.over ≤ 60 * s.over
   side_most = mul-le-mul_right s.over t.limits.side_most
 
-  abbrev inner : ℕ
-  inner = max (t.runoff.crown_slope * s.over) (s.up - s.down)
-
-  abbrev slopes : Slopes
-  slopes =
-      record {
-        outer = s;
-        inner = inner;
-        shoulder = max (t.runoff.shoulder_slope * s.over) inner;
-      }
-
-  pub all_slopes : SlopesAt (section_in t.runoff) t.d slopes
+  pub all_slopes : SlopesAt (section_in t.runoff) t.d (slopes_by (section_in t.runoff) s)
   all_slopes =
       record {
         outer_is = f;
@@ -107,3 +114,8 @@ module _ (t : Station) (s : Slope) (f : SlopeIs (outer_slope (section_in t.runof
         inner_high = omega (arith, crown_most, f.net);
         shoulder_high = omega (arith, crown_most, side_most, f.net);
       }
+
+-- all of them at a station
+pub slopes_at : (t : Station) → SlopesAt (section_in t.runoff) t.d (slopes_parts (section_in t.runoff) t.d)
+unfolding slopes_parts
+slopes_at t = all_slopes t _ (slope_lem t)

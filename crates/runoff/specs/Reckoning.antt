@@ -1,6 +1,6 @@
 -- What the private functions that reckon a row ask and promise.
 -- Assumes nothing.
-use Rattle.std.specs.Prelude.{◌≡◌, List, ℕ, ◌+◌, ◌*◌, ◌≤◌, ℤ, pos}
+use Rattle.std.specs.Prelude.{◌≡◌, cond, List, ℕ, ◌+◌, ◌*◌, ◌-◌, ◌≤◌, leb, max, ℤ, pos}
 use Rattle.exact.specs.Exact.{Exact, whole, ◌⊗◌}
 use Rattle.exact.specs.Parts.{Is}
 use Rattle.card.specs.Rows.{station_to, in_units}
@@ -11,7 +11,7 @@ use Rattle.runoff.specs.declared.turning.Slope.{Slope}
 use Rattle.runoff.specs.declared.turning.Slopes.{Slopes}
 use Rattle.runoff.specs.declared.rows.Sides.{Sides}
 use Rattle.runoff.specs.declared.rows.Row.{Row}
-use Rattle.section.specs.Lines.{Section, axis, outer_slope, inner_slope, shoulder_slope, widening, inner_brow, inner_edge, outer_edge, outer_brow}
+use Rattle.section.specs.Lines.{Section, axis, is_even, joint_num, outer_slope, inner_slope, shoulder_slope, widening, inner_brow, inner_edge, outer_edge, outer_brow}
 use Rattle.runoff.specs.Rows.{cells}
 use Rattle.runoff.specs.Runoff.{stages_of}
 
@@ -59,6 +59,30 @@ pub record SlopesAt (x : Section) (d : ℕ) (s : Slopes) : Type 0 where
   pub shoulder_is : Is (shoulder_slope x (whole d)) s.shoulder 0 s.outer.over
   pub inner_high : s.inner ≤ 60 * s.outer.over
   pub shoulder_high : s.shoulder ≤ 60 * s.outer.over
+
+-- ---- the slopes' parts, as the code reckons them
+abbrev pub even_parts : Section → ℕ → Slope
+even_parts x d = record { up = (x.p + x.v) * d; down = x.p * x.L; over = x.L }
+
+abbrev pub first_parts : Section → ℕ → Slope
+first_parts x d = record { up = 3 * d; down = x.p * x.h; over = x.h }
+
+abbrev pub second_parts : Section → ℕ → Slope
+second_parts x d =
+    let run = 3 * x.L - joint_num x in
+    record { up = x.p * run + (x.v - x.p) * (3 * d - joint_num x); down = 0; over = run }
+
+unfoldable pub slope_parts : Section → ℕ → Slope
+slope_parts x d = cond (is_even x) (even_parts x d) (cond (leb (3 * d) (joint_num x)) (first_parts x d) (second_parts x d))
+
+-- with an outer slope: the inner one is at least p, and the shoulder's at least q
+abbrev pub slopes_by : Section → Slope → Slopes
+slopes_by x s =
+    let inner = max (x.p * s.over) (s.up - s.down) in
+    record { outer = s; inner = inner; shoulder = max (x.q * s.over) inner }
+
+unfoldable pub slopes_parts : Section → ℕ → Slopes
+slopes_parts x d = slopes_by x (slope_parts x d)
 
 -- ---- the row
 -- the heights of the two sides at the station d, with the axis at a

@@ -21,6 +21,7 @@ use card::{
     Card, Profile, Refusal, added_slope, check_after, check_before, check_room, profile_at,
     row_count,
 };
+pub use turning::{Slope, Slopes, Station};
 
 // How many numbers a row has in a table.
 pub const ROW_WIDTH: usize = 7;

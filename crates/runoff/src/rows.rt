@@ -3,11 +3,11 @@ ghost use Rattle.std.specs.Prelude.{◌≡◌, ◌++◌, ◌+◌, ◌*◌, ◌-�
 ghost use Rattle.exact.specs.Exact.{whole, ◌⊗◌};
 ghost use Rattle.card.specs.Rows.{in_units, station_to};
 ghost use Rattle.card.specs.RowsInto.{with_rows};
-ghost use Rattle.section.specs.Lines.{axis_height, widening};
+ghost use Rattle.section.specs.Lines.{widening};
 ghost use Rattle.runoff.specs.Refusal.{refusal};
 ghost use Rattle.runoff.specs.Runoff.{runoff_of};
 ghost use Rattle.runoff.specs.Rows.{cells, row_count, row_width, rows};
-ghost use Rattle.runoff.specs.Reckoning.{section_in, Limits, SlopesAt, inner_sides, outer_sides, row_on, rows_on};
+ghost use Rattle.runoff.specs.Reckoning.{section_in, SlopesAt, inner_sides, outer_sides, row_on, rows_on};
 
 use crate::turning::{Slopes, Station};
 use crate::{ROW_WIDTH, Runoff};
@@ -128,14 +128,6 @@ impl Row {
     }
 }
 
-// How high the axis stays, in micrometres.
-fn axis_height(r: Runoff) -> u64
-    requires { Limits r }
-    ensures { result ≡ axis_height (section_in r) }
-{
-    r.shoulder_width * r.shoulder_slope + r.half_width * r.crown_slope
-}
-
 impl Accepted {
     // The station of row i.
     fn station(self, i: u32) -> Station
@@ -167,7 +159,7 @@ impl Accepted {
         requires room { row_width * self.count ≤ length table.old }
         ensures { table.new ≡ rows self.card ++ drop (row_width * row_count self.card) table.old }
     {
-        let axis = Axis::still(axis_height(self.runoff), u64::from(self.card.unit));
+        let axis = Axis::still(self.station(0).axis_height(), u64::from(self.card.unit));
         self.write_on(axis, axis.number(), 0, self.count, table);
     }
 

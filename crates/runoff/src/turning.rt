@@ -1,15 +1,14 @@
 // The slopes at a station, over one denominator, in natural numbers.
 ghost use Rattle.std.specs.Prelude.{◌≡◌, ◌+◌, ◌*◌, ◌≤◌, ◌<◌};
-ghost use Rattle.exact.specs.Exact.{whole};
-ghost use Rattle.section.specs.Lines.{outer_slope};
-ghost use Rattle.runoff.specs.Reckoning.{section_in, Limits, SlopeIs, SlopesAt};
+ghost use Rattle.section.specs.Lines.{axis_height};
+ghost use Rattle.runoff.specs.Reckoning.{section_in, Limits, slope_parts, slopes_parts};
 
 use crate::{Runoff, Stages};
 use heights::at_least;
 
 // A slope in per mille: (up - down) / over.
 #[derive(Clone, Copy)]
-pub(crate) struct Slope {
+pub struct Slope {
     pub up: u64,
     pub down: u64,
     pub over: u64,
@@ -17,7 +16,7 @@ pub(crate) struct Slope {
 
 // What the heights at a station are reckoned from: the outer slope, and those of the inner lane and of its shoulder over the same denominator.
 #[derive(Clone, Copy)]
-pub(crate) struct Slopes {
+pub struct Slopes {
     pub outer: Slope,
     pub inner: u64,
     pub shoulder: u64,
@@ -25,7 +24,7 @@ pub(crate) struct Slopes {
 
 // A station of a runoff, d mm from its start.
 #[derive(Clone, Copy)]
-pub(crate) struct Station {
+pub struct Station {
     pub runoff: Runoff,
     pub d: u64,
     ghost limits: { Limits runoff },
@@ -36,7 +35,7 @@ impl Station {
     // In a straight line from -p at 0 to v at L.
     fn even_slope(self) -> Slope
         requires { 3 * self.runoff.clothoid ≤ self.runoff.half_width * (self.runoff.crown_slope + self.runoff.full_slope) }
-        ensures { SlopeIs (outer_slope (section_in self.runoff) (whole self.d)) result }
+        ensures { result ≡ slope_parts (section_in self.runoff) self.d }
     {
         let r = self.runoff;
         Slope {
@@ -50,7 +49,7 @@ impl Station {
     fn first_slope(self) -> Slope
         requires two_stage { self.runoff.half_width * (self.runoff.crown_slope + self.runoff.full_slope) < 3 * self.runoff.clothoid }
         requires first { 3 * self.d ≤ 2 * self.runoff.half_width * self.runoff.crown_slope }
-        ensures { SlopeIs (outer_slope (section_in self.runoff) (whole self.d)) result }
+        ensures { result ≡ slope_parts (section_in self.runoff) self.d }
     {
         let r = self.runoff;
         Slope {
@@ -65,7 +64,7 @@ impl Station {
         requires two_stage { self.runoff.half_width * (self.runoff.crown_slope + self.runoff.full_slope) < 3 * self.runoff.clothoid }
         requires second { 2 * self.runoff.half_width * self.runoff.crown_slope < 3 * self.d }
         requires joint { (num ≡ 2 * self.runoff.half_width * self.runoff.crown_slope) × (den ≡ 3) }
-        ensures { SlopeIs (outer_slope (section_in self.runoff) (whole self.d)) result }
+        ensures { result ≡ slope_parts (section_in self.runoff) self.d }
     {
         let r = self.runoff;
         let run = den * r.clothoid - num;
@@ -80,7 +79,7 @@ impl Station {
 
     // The outer slope. The joint is compared as a fraction and never rounded.
     fn outer_slope(self) -> Slope
-        ensures { SlopeIs (outer_slope (section_in self.runoff) (whole self.d)) result }
+        ensures { result ≡ slope_parts (section_in self.runoff) self.d }
     {
         match self.runoff.stages {
             Stages::Even => self.even_slope(),
@@ -90,8 +89,8 @@ impl Station {
     }
 
     // Every slope: the inner lane is not turned before the outer slope is p, nor the shoulder before it is q.
-    pub(crate) fn slopes(self) -> Slopes
-        ensures { SlopesAt (section_in self.runoff) self.d result }
+    pub fn slopes(self) -> Slopes
+        ensures { result ≡ slopes_parts (section_in self.runoff) self.d }
     {
         let r = self.runoff;
         let outer = self.outer_slope();
@@ -102,5 +101,13 @@ impl Station {
             inner,
             shoulder,
         }
+    }
+
+    // How high the axis of a relative card stays, in micrometres.
+    pub fn axis_height(self) -> u64
+        ensures { result ≡ axis_height (section_in self.runoff) }
+    {
+        let r = self.runoff;
+        r.shoulder_width * r.shoulder_slope + r.half_width * r.crown_slope
     }
 }

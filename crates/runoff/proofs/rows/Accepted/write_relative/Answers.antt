@@ -15,14 +15,11 @@ use Rattle.runoff.proofs.Limits.{limits_of, axis_most}
 use Rattle.runoff.proofs.RowsWritten.{all_on, all_written, same_row_on}
 use Rattle.runoff.proofs.rows.Accepted.write_relative.Goals as goal
 
-pub axis_height-requires : goal.axis_height-requires
-axis_height-requires c = rw c.args.self.made (limits_of c.args.self.card c.args.self.passes)
-
 pub returns : goal.returns
 returns c =
     let a = c.args.self in
     let limits : Limits a.runoff = rw a.made (limits_of a.card a.passes) in
-    let stands = rw (c.from.ensures, c.axis_height.ensures) at c.still-axis.ensures.within (stays_of (accepted a.card a.passes).after (axis_most limits)) in
+    let stands = rw (c.from.ensures, c.axis_height.ensures, c.station.ensures.runoff) at c.still-axis.ensures.within (stays_of (accepted a.card a.passes).after (axis_most limits)) in
     -- the axis's number, as it is read back
     let number = to_z-of_z {w = w32} (record { sfits = c.number.type_inv }) ∙ c.number.ensures in
     let same = λ (i : ℕ). same_row_on a.card a.passes i a.made (relative_axis (whole (station_of a.card i)) c.requires.datum stands) number in

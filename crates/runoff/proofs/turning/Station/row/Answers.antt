@@ -9,8 +9,15 @@ use mir.Facts.{to_z-of_z}
 use Rattle.exact.proofs.Machine.{nat_back}
 use Rattle.runoff.specs.declared.rows.Sides.{Sides}
 use Rattle.runoff.specs.Reckoning.{inner_sides, outer_sides, row_on}
+use Rattle.runoff.proofs.StationSlopes.{slopes_at}
 use Rattle.runoff.proofs.Fields.{same_row}
 use Rattle.runoff.proofs.turning.Station.row.Goals as goal
+
+pub inner_sides-inner-requires : goal.inner_sides-inner-requires
+inner_sides-inner-requires c = rw c.slopes-s.ensures (slopes_at c.args.self)
+
+pub outer_sides-outer-requires : goal.outer_sides-outer-requires
+outer_sides-outer-requires c = rw c.slopes-s.ensures (slopes_at c.args.self)
 
 pub returns : goal.returns
 unfolding row_on inner_sides outer_sides

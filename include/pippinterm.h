@@ -19,8 +19,8 @@
  *   - a pointer leads to as many numbers, bytes or cards as are said to be there,
  *     and they lie as C aligns them. A table, a text, a list, names, a buffer, a day's
  *     cards or its reply list may be NULL where the length given with it is 0;
- *     card, count, line and looked are never NULL, since a card has its eleven
- *     numbers in every call, and count, line and looked are always written;
+ *     card, count, fresh, line and looked are never NULL, since a card has its eleven
+ *     numbers in every call, and count, fresh, line and looked are always written;
  *   - what is lent for writing in one call shares no memory with anything else
  *     that is lent in it, and nothing else writes to what is lent while the
  *     call runs.
@@ -38,7 +38,7 @@ extern "C" {
 /* The version of the library that this header is delivered with, as three numbers
    and as text with points between; CHANGES.md says what each version brought. */
 #define PIPPINTERM_VERSION_MAJOR 0
-#define PIPPINTERM_VERSION_MINOR 7
+#define PIPPINTERM_VERSION_MINOR 8
 #define PIPPINTERM_VERSION_PATCH 0
 #define PIPPINTERM_VERSION_JOINED_(major, minor, patch) #major "." #minor "." #patch
 #define PIPPINTERM_VERSION_JOINED(major, minor, patch) \
@@ -244,6 +244,24 @@ uint32_t pippinterm_least_length(uint32_t radius, uint32_t *looked);
 uint32_t pippinterm_fill_table(const int32_t card[PIPPINTERM_CARD_NUMBERS],
                                int32_t *table, size_t table_length,
                                uint32_t *count);
+
+/*
+ * Fills a table with the rows of a card by 503-0-45, walking from row to row.
+ * Number, *count and the whole table are those of pippinterm_fill_table, for every
+ * card and every length; but each row is made from the one before it, by adding and
+ * carrying the remainder, and only these are worked afresh: the first row, the last,
+ * the first past the joint of two stages, and the first past each station where a rule
+ * that takes the greater of two changes sides. There are three such rules: the inner
+ * slope is the crown slope or the outer slope, the shoulder's is the shoulder slope or
+ * the inner slope, and the inner shoulder is the least shoulder or what the widening
+ * leaves. A row on such a station is not yet past it.
+ * *fresh is how many rows were worked afresh, each counted once: 2 to 5 for an accepted
+ * card, 0 with a refusal.
+ * table_length is in numbers, not in bytes, and may be any, 0 too.
+ */
+uint32_t pippinterm_walk_table(const int32_t card[PIPPINTERM_CARD_NUMBERS],
+                               int32_t *table, size_t table_length,
+                               uint32_t *count, uint32_t *fresh);
 
 /*
  * Checks a card by the method of the Minsk handbook: the card is the same, but no book

@@ -8,6 +8,7 @@ ghost use Rattle.card.specs.Told.{refusal_number, number_told};
 ghost use Rattle.runoff.specs.Refusal.{refusal};
 ghost use Rattle.runoff.specs.Table.{reply_to, table_after};
 ghost use Rattle.runoff.specs.Climbing.{ClimbingTable};
+ghost use Rattle.walk.specs.Fresh.{FreshRows};
 ghost use Rattle.minsk.specs.Refusal.{refusal as minsk_refusal};
 ghost use Rattle.minsk.specs.Table.{reply_to as minsk_reply, table_after as minsk_table};
 ghost use Rattle.minsk.specs.Climbing.{ClimbingTable as MinskClimbing};
@@ -22,6 +23,7 @@ use card::{Numbered, Refusal, in_numbers, least_length};
 use card_list::card_of_numbers;
 use day::fill_day;
 use runoff::{check_card, fill_table};
+use walk::walk_table;
 
 // The least length of a clothoid in metres, by the radius in metres; `looked` has how many listed radii were looked at, above 2000 all twenty.
 #[unsafe(no_mangle)]
@@ -64,6 +66,27 @@ pub extern "C" fn pippinterm_fill_table(card: &[i32; 11], table: &mut [i32], cou
 {
     let (number, rows) = in_numbers(fill_table(card_of_numbers(card), table));
     *count = rows;
+    number
+}
+
+// Fills the lent table with the card's rows by 503-0-45, walking from row to row: number, count and table of `pippinterm_fill_table`. `fresh` has how
+// many rows were worked afresh, and 0 with a refusal.
+#[unsafe(no_mangle)]
+pub extern "C" fn pippinterm_walk_table(
+    card: &[i32; 11],
+    table: &mut [i32],
+    count: &mut u32,
+    fresh: &mut u32,
+) -> u32
+    ensures value { result ≡ (reply_to (card_of card.now) (length table.old)).number }
+    ensures count_after { count.new ≡ (reply_to (card_of card.now) (length table.old)).count }
+    ensures fresh_after { FreshRows (card_of card.now) (length table.old) fresh.new }
+    ensures table_after { table.new ≡ table_after (card_of card.now) table.old }
+    ensures climbing_table { result ≡ 0 → ClimbingTable (card_of card.now) count.new table.new }
+{
+    let (number, walked, afresh) = walk::in_numbers(walk_table(card_of_numbers(card), table));
+    *count = walked;
+    *fresh = afresh;
     number
 }
 

@@ -1,6 +1,8 @@
-//! Seeded cards of five kinds, relative and absolute: valid, on a bound, height or grade on a bound, damaged, random.
+//! Seeded cards of six kinds, relative and absolute: valid, with a row at a turn, on a bound, height or grade on a bound, damaged,
+//! random.
 
 use crate::seeded::Seeded;
+use crate::turned_cards::{put_a_row_at_a_turn, with_a_row_at_a_turn};
 use paper::card::{
     added_slope, least_length, marked, profile, Profile, GREATEST_GRADE, GREATEST_HEIGHT,
     GREATEST_WIDENING, LEAST_GRADE, LEAST_HEIGHT, LEAST_LENGTHS,
@@ -27,24 +29,29 @@ const OTHER_MARKS: [i32; 8] = [2, -1, 10, 256, 65_536, -65_536, i32::MAX, i32::M
 /// Makes a seeded card.
 pub type Make = fn(&mut Seeded) -> Numbers;
 
-pub const KINDS: [(&str, Make); 5] = [
+pub const KINDS: [(&str, Make); 6] = [
     ("valid", valid),
+    ("with a row at a turn", with_a_row_at_a_turn),
     ("on a bound", on_a_bound),
     ("height or grade on a bound", datum_on_a_bound),
     ("damaged", damaged),
     ("random", random),
 ];
 
-/// A card that no reason refuses, relative about as often as absolute.
+/// A card that no reason refuses, relative about as often as absolute; often with a row at a turn.
 pub fn valid(seeded: &mut Seeded) -> Numbers {
     let number = seeded.between(1, 5);
     let profile = profile(number).expect("a profile");
     let radius = radius(&profile, seeded);
-    valid_with(number, radius, seeded)
+    let mut card = valid_with(number, radius, seeded);
+    if seeded.one_in(3) {
+        put_a_row_at_a_turn(&mut card, seeded);
+    }
+    card
 }
 
 /// An accepted card of that profile and radius.
-fn valid_with(number: u32, radius: u32, seeded: &mut Seeded) -> Numbers {
+pub fn valid_with(number: u32, radius: u32, seeded: &mut Seeded) -> Numbers {
     let profile = profile(number).expect("a profile");
     let terrain = seeded.between(1, 2);
     let added = added_slope(&profile, terrain).expect("a terrain");
@@ -162,7 +169,7 @@ pub fn datum_on_a_bound_from(valid: Make, bounds: Bounds, seeded: &mut Seeded) -
 }
 
 /// The least whole number that is not below `top` over `bottom`.
-fn up(top: u32, bottom: u32) -> u32 {
+pub fn up(top: u32, bottom: u32) -> u32 {
     top.div_ceil(bottom)
 }
 

@@ -1,5 +1,5 @@
-//! Compares the compiled library with the paper's rules, card by card, book by book, day by day, radius by radius, list by
-//! list, and card by card for the method of the Minsk handbook.
+//! Compares the compiled library with the paper's rules, card by card, filled into a table and walked from row to row, book by book,
+//! day by day, radius by radius, list by list, and card by card for the method of the Minsk handbook.
 //!
 //! `against [--cards N] [--books N] [--days N] [--lists N] [--minsk N] [--seed S]`: the same words give the same output;
 //! the radii are always the same.
@@ -30,6 +30,11 @@ mod read_back;
 mod seeded;
 mod seen_card;
 mod tally;
+mod turned_cards;
+mod walk_case;
+mod walk_tally;
+#[cfg(test)]
+mod walker;
 mod words;
 mod work;
 #[cfg(test)]
@@ -48,6 +53,8 @@ mod wrong_lists;
 mod wrong_minsk;
 #[cfg(test)]
 mod wrong_radii;
+#[cfg(test)]
+mod wrong_walks;
 
 use book_tally::SORTS as BOOK_SORTS;
 use card_tally::SORTS as CARD_SORTS;
@@ -57,6 +64,7 @@ use minsk_tally::{MinskTally, MINSK_REPLIES, SORTS as MINSK_SORTS};
 use std::env;
 use std::process::ExitCode;
 use tally::{Altered, Tally, BOOK_REPLIES, CARD_REPLIES, SORTS};
+use walk_tally::{WalkTally, FRESH, PLACES as ROWS, SORTS as WALK_SORTS, TURNS};
 use work::Asked;
 
 /// What is compared when nothing else is asked.
@@ -72,6 +80,9 @@ const DEFAULT: Asked = Asked {
 const OFTEN: u64 = 100;
 /// The same for each reply and each sort of days, which are fewer.
 const OFTEN_IN_DAYS: u64 = 10;
+
+/// How many walks of a run of the default size have a turn on a row or beside one.
+const BESIDE: u64 = 200_000;
 
 /// What may be asked.
 const WORDS: &str = "against [--cards N] [--books N] [--days N] [--lists N] [--minsk N] [--seed S]";
@@ -100,6 +111,8 @@ fn lacks(asked: Asked, tally: &Tally) -> Vec<String> {
     let often = |size, default, often| if size >= default { often } else { 1 };
     let cards_often = often(asked.cards, DEFAULT.cards, OFTEN);
     let mut lacks = card_lacks(tally, cards_often);
+    let beside = often(asked.cards, DEFAULT.cards, BESIDE);
+    lacks.extend(walk_lacks(&tally.walks, cards_often, beside));
     let books_often = often(asked.books, DEFAULT.books, OFTEN);
     lacks.extend(book_lacks(tally, books_often));
     let days_often = often(asked.days, DEFAULT.days, OFTEN_IN_DAYS);
@@ -112,6 +125,7 @@ fn lacks(asked: Asked, tally: &Tally) -> Vec<String> {
     let whole = whole && asked.days >= DEFAULT.days && asked.lists >= DEFAULT.lists;
     let whole = whole && asked.minsk >= DEFAULT.minsk;
     lacks.extend(unseen("card", &tally.altered_cards, whole));
+    lacks.extend(unseen("walk", &tally.walks.altered, whole));
     lacks.extend(unseen("book", &tally.altered_books, whole));
     lacks.extend(unseen("day", &tally.days.altered, whole));
     lacks.extend(unseen("radius", &tally.altered_radii, true));
@@ -136,6 +150,28 @@ fn card_lacks(tally: &Tally, due: u64) -> Vec<String> {
     }
     let unlisted = tally.unlisted;
     lacks.extend((unlisted > 0).then(|| format!("a listed reply to {unlisted} cards")));
+    lacks
+}
+
+/// Counts of rows worked afresh, places of turns beside the rows and sorts of walks that are met too rarely.
+fn walk_lacks(tally: &WalkTally, due: u64, beside: u64) -> Vec<String> {
+    let mut lacks = Vec::new();
+    for (place, fresh) in FRESH.iter().enumerate() {
+        let met = tally.fresh(place);
+        lacks.extend(rarely(&format!("walk with {fresh} afresh"), met, due));
+    }
+    for (turn, counts) in TURNS.iter().zip(&tally.turns) {
+        let rows = ROWS.iter().zip(counts);
+        let rarely = |(row, &met)| rarely(&format!("{turn} {row}"), met, due);
+        lacks.extend(rows.filter_map(rarely));
+    }
+    for ((sort, _), &met) in WALK_SORTS.iter().zip(&tally.sorts) {
+        lacks.extend(rarely(&format!("walk with {sort}"), met, due));
+    }
+    let what = "walk with a turn on a row or beside one";
+    lacks.extend(rarely(what, tally.beside, beside));
+    let unlisted = tally.unlisted;
+    lacks.extend((unlisted > 0).then(|| format!("a listed reply to {unlisted} walks")));
     lacks
 }
 

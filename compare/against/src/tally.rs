@@ -10,6 +10,7 @@ use crate::day_tally::DayTally;
 use crate::list_tally::ListTally;
 use crate::minsk_tally::MinskTally;
 use crate::radius_case::{self, RadiusCase};
+use crate::walk_tally::WalkTally;
 use paper::card::{profile, Datum};
 use paper::fraction::{fraction, whole, Fraction};
 use paper::section::{Course, Runoff};
@@ -92,6 +93,7 @@ pub struct Tally {
     pub days: DayTally,
     pub lists: ListTally,
     pub minsk: MinskTally,
+    pub walks: WalkTally,
     pub differing: u64,
     pub differences: Vec<Difference>,
 }
@@ -118,6 +120,7 @@ impl Default for Tally {
             days: DayTally::default(),
             lists: ListTally::default(),
             minsk: MinskTally::default(),
+            walks: WalkTally::default(),
             differing: 0,
             differences: Vec::new(),
         }
@@ -216,6 +219,7 @@ impl Tally {
         self.days.add(&other.days);
         self.lists.add(&other.lists);
         self.minsk.add(&other.minsk);
+        self.walks.add(&other.walks);
         self.unlisted += other.unlisted;
         self.rows += other.rows;
         self.table_numbers += other.table_numbers;

@@ -17,6 +17,8 @@ use crate::minsk_cards;
 use crate::minsk_tally::{MINSK_REPLIES, SORTS as MINSK_SORTS};
 use crate::radius_case::{self, RadiusAnswer, RadiusCase};
 use crate::tally::{Altered, Tally, BOOK_REPLIES, CARD_REPLIES, LENGTHS, RANGES, SORTS};
+use crate::walk_case::{self, WalkAnswer, WalkCase};
+use crate::walk_tally::{FRESH, PLACES as ROWS, SORTS as WALK_SORTS, TURNS};
 use std::fmt::Arguments;
 
 /// Unlike places named in one difference.
@@ -41,6 +43,8 @@ fn sum<const N: usize>(lines: &[[u64; N]]) -> [u64; N] {
 
 pub fn print_tally(tally: &Tally) {
     print_cards(tally);
+    println!();
+    print_walks(tally);
     println!();
     print_books(tally);
     println!();
@@ -86,6 +90,30 @@ fn print_cards(tally: &Tally) {
         line(name, &[*met]);
     }
     let (rows, numbers) = (tally.rows, tally.table_numbers);
+    println!("{rows} rows compared; {numbers} numbers, tails and guards too");
+}
+
+fn print_walks(tally: &Tally) {
+    let tally = &tally.walks;
+    let fresh = FRESH.map(|fresh| fresh.to_string());
+    heading("Walks by rows worked afresh", &fresh);
+    for (name, counts) in card_kind_names().iter().zip(&tally.fresh) {
+        line(name, counts);
+    }
+    line("all", &sum(&tally.fresh));
+    println!();
+    heading("Turns", &ROWS.map(str::to_string));
+    for (name, counts) in TURNS.iter().zip(&tally.turns) {
+        line(name, counts);
+    }
+    let beside = tally.beside;
+    println!("{beside} walks with a turn on a row, or 1 mm or less beside one");
+    println!();
+    heading("Walks by sort", &["met".to_string()]);
+    for ((name, _), met) in WALK_SORTS.iter().zip(&tally.sorts) {
+        line(name, &[*met]);
+    }
+    let (rows, numbers) = (tally.rows, tally.numbers);
     println!("{rows} rows compared; {numbers} numbers, tails and guards too");
 }
 
@@ -198,6 +226,9 @@ fn print_altered(tally: &Tally) {
     for ((name, _), altered) in card_case::ALTERATIONS.iter().zip(&tally.altered_cards) {
         line(&format!("card: {name}"), &[altered.made, altered.found]);
     }
+    for ((name, _), altered) in walk_case::ALTERATIONS.iter().zip(&tally.walks.altered) {
+        line(&format!("walk: {name}"), &[altered.made, altered.found]);
+    }
     for ((name, _), altered) in book_case::ALTERATIONS.iter().zip(&tally.altered_books) {
         line(&format!("book: {name}"), &[altered.made, altered.found]);
     }
@@ -216,7 +247,8 @@ fn print_altered(tally: &Tally) {
     let (cards, books) = (&tally.altered_cards[..], &tally.altered_books[..]);
     let (days, radii) = (&tally.days.altered[..], &tally.altered_radii[..]);
     let (lists, minsk) = (&tally.lists.altered[..], &tally.minsk.altered[..]);
-    let all = total(&[cards, books, days, radii, lists, minsk].concat());
+    let walks = &tally.walks.altered[..];
+    let all = total(&[cards, walks, books, days, radii, lists, minsk].concat());
     println!("{} altered answers, {} found", all.made, all.found);
 }
 
@@ -254,6 +286,21 @@ fn card_words(answer: &CardAnswer) -> String {
     let (check, reply) = (answer.check, answer.reply);
     let count = answer.count.numbers()[0];
     format!("check {check}, reply {reply}, count {count}")
+}
+
+pub fn walk_difference(origin: &Arguments, case: &WalkCase, unlike: &[Unlike]) -> String {
+    let card = numbers(&case.card);
+    let length = case.due.table.numbers().len();
+    let mut words = format!("walk ({origin})\n  card {card}\n  table of {length} numbers\n");
+    words += &format!("  due: {}\n", walk_words(&case.due));
+    words += &format!("  came: {}\n", walk_words(&case.came));
+    words + &places(unlike)
+}
+
+fn walk_words(answer: &WalkAnswer) -> String {
+    let reply = answer.reply;
+    let (count, fresh) = (answer.count.numbers()[0], answer.fresh.numbers()[0]);
+    format!("reply {reply}, count {count}, fresh {fresh}")
 }
 
 pub fn book_difference(origin: &Arguments, case: &BookCase, unlike: &[Unlike]) -> String {

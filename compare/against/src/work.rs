@@ -15,6 +15,7 @@ use crate::radii::radii;
 use crate::radius_case::{self, RadiusAnswer, RadiusCase};
 use crate::seeded::Seeded;
 use crate::tally::{Altered, Tally, FROM_A_BOOK};
+use crate::walk_case::{self, WalkAnswer, WalkCase};
 use crate::words;
 use std::fmt::Arguments;
 use std::ops::Range;
@@ -38,6 +39,8 @@ const ALTERED_LIST: u64 = 10;
 const FILLED_BOOK: u64 = 11;
 const MINSK: u64 = 12;
 const ALTERED_MINSK: u64 = 13;
+const WALK: u64 = 14;
+const ALTERED_WALK: u64 = 15;
 /// One accepted book in so many has its cards filled into tables too.
 const BOOKS_FILLED: usize = 4;
 
@@ -110,16 +113,33 @@ pub fn card(seed: u64, index: u64, call: card_case::Call) -> (usize, CardCase) {
     (kind, card_case::run(card, call, &mut seeded))
 }
 
+/// The answers to the walk of the card of that index, by the paper and by the call.
+pub fn walk(seed: u64, index: u64, filled: &CardCase, call: walk_case::Call) -> WalkCase {
+    let mut seeded = Seeded::new(seed, WALK, index);
+    walk_case::run(filled, call, &mut seeded)
+}
+
 fn cards_of(piece: u64, nth: u64, asked: Asked, tally: &mut Tally) {
     let mut altered = Seeded::new(asked.seed, ALTERED_CARD, nth);
     let (range, chosen) = indices(nth, PIECE, asked.cards, &mut altered);
     for index in range {
         let (kind, case) = card(asked.seed, index, card_case::library);
+        let walk = walk(asked.seed, index, &case, walk_case::library);
         let (name, _) = cards::KINDS[kind];
-        let like = compare_card(piece, &format_args!("{name}, index {index}"), &case, tally);
+        let origin = format_args!("{name}, index {index}");
+        let like = compare_card(piece, &origin, &case, tally);
+        let walks_alike = compare_walk(piece, &origin, &walk, tally);
         tally.count_card(kind, &case);
-        if like && index == chosen {
+        tally.walks.count(kind, &walk);
+        if index != chosen {
+            continue;
+        }
+        if like {
             alter_card(&case, &mut altered, tally);
+        }
+        if walks_alike {
+            let mut altered = Seeded::new(asked.seed, ALTERED_WALK, nth);
+            alter_walk(&walk, &mut altered, tally);
         }
     }
 }
@@ -129,6 +149,15 @@ fn compare_card(piece: u64, origin: &Arguments, case: &CardCase, tally: &mut Tal
     let unlike = case.due.unlike(&case.came);
     if !unlike.is_empty() {
         tally.differs(piece, || words::card_difference(origin, case, &unlike));
+    }
+    unlike.is_empty()
+}
+
+/// True when nothing differs.
+fn compare_walk(piece: u64, origin: &Arguments, case: &WalkCase, tally: &mut Tally) -> bool {
+    let unlike = case.due.unlike(&case.came);
+    if !unlike.is_empty() {
+        tally.differs(piece, || words::walk_difference(origin, case, &unlike));
     }
     unlike.is_empty()
 }
@@ -165,13 +194,16 @@ fn books_of(piece: u64, nth: u64, asked: Asked, tally: &mut Tally) {
     }
 }
 
-/// The cards go from the library's list into its tables.
+/// The cards go from the library's list into its tables, filled and walked.
 fn fill_tables(piece: u64, index: u64, case: &BookCase, seeded: &mut Seeded, tally: &mut Tally) {
     for (curve, card) in case.came.cards().into_iter().enumerate() {
         let case = card_case::run(card, card_case::library, seeded);
+        let walk = walk_case::run(&case, walk_case::library, seeded);
         let origin = format_args!("curve {curve} of book index {index}");
         compare_card(piece, &origin, &case, tally);
+        compare_walk(piece, &origin, &walk, tally);
         tally.count_card(FROM_A_BOOK, &case);
+        tally.walks.count(FROM_A_BOOK, &walk);
     }
 }
 
@@ -301,6 +333,12 @@ fn alter_card(case: &CardCase, seeded: &mut Seeded, tally: &mut Tally) {
     let answers = (&case.due, &case.came);
     let (alterations, tally) = (&card_case::ALTERATIONS, &mut tally.altered_cards);
     alter_each(answers, CardAnswer::unlike, alterations, seeded, tally);
+}
+
+fn alter_walk(case: &WalkCase, seeded: &mut Seeded, tally: &mut Tally) {
+    let answers = (&case.due, &case.came);
+    let (alterations, tally) = (&walk_case::ALTERATIONS, &mut tally.walks.altered);
+    alter_each(answers, WalkAnswer::unlike, alterations, seeded, tally);
 }
 
 fn alter_minsk(case: &CardCase, seeded: &mut Seeded, tally: &mut Tally) {

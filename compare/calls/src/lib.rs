@@ -1,4 +1,4 @@
-//! The library's eight calls, over slices. An empty slice crosses as NULL, as the header allows.
+//! The library's nine calls, over slices. An empty slice crosses as NULL, as the header allows.
 
 #[cfg(test)]
 mod header;
@@ -17,6 +17,13 @@ extern "C" {
         table: *mut i32,
         table_length: usize,
         count: *mut u32,
+    ) -> u32;
+    fn pippinterm_walk_table(
+        card: *const i32,
+        table: *mut i32,
+        table_length: usize,
+        count: *mut u32,
+        fresh: *mut u32,
     ) -> u32;
     fn pippinterm_check_minsk_card(card: *const i32) -> u32;
     fn pippinterm_fill_minsk_table(
@@ -83,6 +90,14 @@ pub fn fill_table(card: &Card, table: &mut [i32], count: &mut u32) -> u32 {
     let (length, table) = (table.len(), start_mut(table));
     // SAFETY: every place lent here is its slice's own, with its true length.
     unsafe { pippinterm_fill_table(card.as_ptr(), table, length, count) }
+}
+
+/// The same table, each row made from the one before; sets the count of rows and how many were worked afresh, and gives the
+/// reply number.
+pub fn walk_table(card: &Card, table: &mut [i32], count: &mut u32, fresh: &mut u32) -> u32 {
+    let (length, table) = (table.len(), start_mut(table));
+    // SAFETY: every place lent here is its slice's own, with its true length.
+    unsafe { pippinterm_walk_table(card.as_ptr(), table, length, count, fresh) }
 }
 
 /// The first of the reasons 1 to 6, 36 to 38, 8 to 10, 34 and 35 met by the handbook's method, or 0.

@@ -2,7 +2,7 @@
 
 use crate::header::HEADER;
 use crate::{check_card, check_minsk_card, fill_day, fill_minsk_table, fill_table};
-use crate::{least_length, read_book, write_book, Card};
+use crate::{least_length, read_book, walk_table, write_book, Card};
 use std::arch::asm;
 
 /// What the header says, and the same in bytes.
@@ -19,6 +19,10 @@ const TWO_STAGE: Card = [3, 1, 700, 120_000, 40, 400, 20_000, 10, 0, 0, 0];
 const HIGH_EVEN: Card = [5, 1, 30, 30_000, 60, 600, 20_000, 1, 1, 250_000, -35];
 const HIGH_TWO_STAGE: Card = [3, 1, 700, 120_000, 40, 400, 20_000, 10, 1, -99_990, 80];
 const WRONG_UNIT: Card = [3, 1, 700, 120_000, 40, 400, 20_000, 2, 0, 0, 0];
+
+/// A card of 8 rows, five of them worked afresh, and the same in cm, high and falling.
+const TURNED: Card = [2, 1, 200, 80_000, 60, 1200, 13_333, 1, 0, 0, 0];
+const HIGH_TURNED: Card = [2, 1, 200, 80_000, 60, 1200, 13_333, 10, 1, 9_000_000, -79];
 
 /// Cards of 8 and of 9 rows by the handbook: crowned at first, in both stages, with a widening in its growth and past it.
 const BANKED: Card = [1, 1, 600, 140_000, 48, 0, 20_000, 1, 0, 0, 0];
@@ -110,6 +114,33 @@ fn a_cards_table() {
             number = check_card(&card) + fill_table(&card, &mut table, &mut count);
         });
         assert_eq!((number, table[7 * count as usize - 7]), (0, card[3]));
+        assert!((1..SAID).contains(&taken), "{taken} bytes");
+    }
+}
+
+/// The last row's station is L; then a card that is refused, and a table that is one number short.
+#[test]
+fn a_walked_card() {
+    for (card, due) in [
+        (EVEN, 2),
+        (TWO_STAGE, 3),
+        (TURNED, 5),
+        (HIGH_EVEN, 2),
+        (HIGH_TWO_STAGE, 3),
+        (HIGH_TURNED, 5),
+    ] {
+        let (mut table, mut number, mut count, mut fresh) = ([0; 56], 1, 0, 0);
+        let taken = taken(|| number = walk_table(&card, &mut table, &mut count, &mut fresh));
+        assert_eq!(
+            (number, fresh, table[7 * count as usize - 7]),
+            (0, due, card[3])
+        );
+        assert!((1..SAID).contains(&taken), "{taken} bytes");
+    }
+    for (card, due) in [(WRONG_UNIT, 10), (TURNED, 11)] {
+        let (mut table, mut number, mut count, mut fresh) = ([0; 55], 0, 1, 1);
+        let taken = taken(|| number = walk_table(&card, &mut table, &mut count, &mut fresh));
+        assert_eq!((number, count, fresh), (due, 0, 0));
         assert!((1..SAID).contains(&taken), "{taken} bytes");
     }
 }

@@ -12,6 +12,17 @@ pub enum Course {
     TwoStage { joint: Fraction },
 }
 
+/// The rules that take the greater of two.
+#[derive(Clone, Copy, Debug, PartialEq, Eq)]
+pub enum Greater {
+    /// "The inner slope is the greater of p and the outer slope."
+    InnerSlope,
+    /// Of the inner shoulder: "Its slope is the greater of q and the inner slope."
+    ShoulderSlope,
+    /// Document 02, Slip 1: "From now on the inner shoulder is the greater of m and c less the widening."
+    InnerShoulder,
+}
+
 /// The paper's letters for one accepted card.
 #[derive(Clone, Copy, Debug)]
 pub struct Runoff {
@@ -56,6 +67,28 @@ impl Runoff {
         }
     }
 
+    /// The stations, rising, between which the outer slope goes in a straight line: 0, the joint where there is one, L.
+    pub fn stage_ends(&self) -> Vec<Fraction> {
+        match self.course {
+            Course::Even => vec![whole(0), self.length],
+            Course::TwoStage { joint } => vec![whole(0), joint, self.length],
+        }
+    }
+
+    /// The two of which a rule takes the greater, as the paper names them.
+    pub fn sides(&self, rule: Greater, station: Fraction) -> [Fraction; 2] {
+        match rule {
+            Greater::InnerSlope => [self.p, self.outer_slope(station)],
+            Greater::ShoulderSlope => [self.q, self.inner_slope(station)],
+            Greater::InnerShoulder => [self.m, self.c - self.widening(station)],
+        }
+    }
+
+    fn greater(&self, rule: Greater, station: Fraction) -> Fraction {
+        let [one, other] = self.sides(rule, station);
+        one.max(other)
+    }
+
     pub fn outer_slope(&self, station: Fraction) -> Fraction {
         match self.course {
             Course::Even => -self.p + (self.p + self.v) * station / self.length,
@@ -82,9 +115,8 @@ impl Runoff {
         self.outer_edge(station) + self.c * self.outer_slope(station)
     }
 
-    /// The greater of p and the outer slope.
     pub fn inner_slope(&self, station: Fraction) -> Fraction {
-        self.p.max(self.outer_slope(station))
+        self.greater(Greater::InnerSlope, station)
     }
 
     /// In mm, all on the inner side.
@@ -96,13 +128,12 @@ impl Runoff {
         self.axis(station) - (self.h + self.widening(station)) * self.inner_slope(station)
     }
 
-    /// Document 02, Slip 1: "From now on the inner shoulder is the greater of m and c less the widening."
     pub fn inner_shoulder(&self, station: Fraction) -> Fraction {
-        self.m.max(self.c - self.widening(station))
+        self.greater(Greater::InnerShoulder, station)
     }
 
     pub fn inner_brow(&self, station: Fraction) -> Fraction {
-        let slope = self.q.max(self.inner_slope(station));
+        let slope = self.greater(Greater::ShoulderSlope, station);
         self.inner_edge(station) - self.inner_shoulder(station) * slope
     }
 

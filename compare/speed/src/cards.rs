@@ -7,6 +7,13 @@ pub fn relative_cards() -> [Numbers; 64] {
     EIGHTS.map(relative)
 }
 
+/// The same cards with another step, in mm.
+pub fn relative_cards_by(step: i32) -> [Numbers; 64] {
+    let mut cards = relative_cards();
+    cards.iter_mut().for_each(|card| card[6] = step);
+    cards
+}
+
 /// The same cards with heights from the least to the greatest, in tens of mm, and grades of either sign.
 pub fn absolute_cards() -> [Numbers; 64] {
     with_heights(&EIGHTS)
@@ -172,13 +179,17 @@ const HANDBOOK_EIGHTS: [[i32; 8]; 64] = [
 
 #[cfg(test)]
 mod tests {
-    use super::{absolute_cards, absolute_handbook_cards, handbook_cards, relative_cards};
+    use super::{absolute_cards, absolute_handbook_cards, handbook_cards};
+    use super::{relative_cards, relative_cards_by};
     use paper::{check_card, check_minsk_card};
 
     /// The limits are among the heights and the grades.
     #[test]
     fn all_are_accepted() {
-        assert!(relative_cards().iter().all(|card| check_card(card) == 0));
+        for cards in [1000, 5000, 20_000].map(relative_cards_by) {
+            assert!(cards.iter().all(|card| check_card(card) == 0));
+        }
+        assert_eq!(relative_cards_by(1000), relative_cards());
         let cards = absolute_cards();
         assert!(cards.iter().all(|card| check_card(card) == 0));
         assert_eq!((cards[0][9], cards[63][9]), (-100_000, 9_000_000));

@@ -19,14 +19,36 @@ type Read = fn(&[u8], &mut [i32]) -> (u32, u32, u32);
 const TABLE: usize = 9 * 301 + 9;
 const LIST: usize = 832;
 
-/// The tables of relative cards, and of absolute ones; and the same by the method of the Minsk handbook.
-const TABLES: [&str; 4] = ["tables", "heights", "minsk", "minskhigh"];
+/// The tables of relative cards, and of absolute ones; the same by the method of the Minsk handbook; the first two walked from row
+/// to row, and the relative cards with steps of 5 m and of 20 m; and these walks beside the library's own tables.
+const TABLES: [&str; 12] = [
+    "tables",
+    "heights",
+    "minsk",
+    "minskhigh",
+    "walk",
+    "walkhigh",
+    "walk5",
+    "walk20",
+    "walk/table",
+    "walkhigh/table",
+    "walk5/table",
+    "walk20/table",
+];
 const BOOKS: [&str; 4] = ["tail", "longest", "ordinary", "greatest"];
 
 /// The library's table, its number and count.
 fn our_table(card: &Numbers, table: &mut [i32]) -> (u32, u32) {
     let mut count = 0;
     let number = calls::fill_table(card, table, &mut count);
+    (number, count)
+}
+
+/// The library's table, walked from row to row, its number and count.
+fn our_walk(card: &Numbers, table: &mut [i32]) -> (u32, u32) {
+    let (mut count, mut fresh) = (0, 0);
+    let number = calls::walk_table(card, table, &mut count, &mut fresh);
+    black_box(fresh);
     (number, count)
 }
 
@@ -50,6 +72,15 @@ const BY_503: Method = Method {
     ours: our_table,
     plain: plain::section::fill_table,
 };
+const WALKED: Method = Method {
+    ours: our_walk,
+    ..BY_503
+};
+/// Here the library's own table stands in the place of plain Rust's.
+const WALKED_BESIDE_TABLES: Method = Method {
+    plain: our_table,
+    ..WALKED
+};
 const BY_THE_HANDBOOK: Method = Method {
     row: 9,
     ours: our_minsk_table,
@@ -70,6 +101,21 @@ fn cards(name: &str) -> Option<([Numbers; 64], Method)> {
         "heights" => Some((cards::absolute_cards(), BY_503)),
         "minsk" => Some((cards::handbook_cards(), BY_THE_HANDBOOK)),
         "minskhigh" => Some((cards::absolute_handbook_cards(), BY_THE_HANDBOOK)),
+        _ => match name.split_once('/') {
+            None => Some((walked_cards(name)?, WALKED)),
+            Some((walk, "table")) => Some((walked_cards(walk)?, WALKED_BESIDE_TABLES)),
+            _ => None,
+        },
+    }
+}
+
+/// The cards of that walk.
+fn walked_cards(name: &str) -> Option<[Numbers; 64]> {
+    match name {
+        "walk" => Some(cards::relative_cards()),
+        "walkhigh" => Some(cards::absolute_cards()),
+        "walk5" => Some(cards::relative_cards_by(5000)),
+        "walk20" => Some(cards::relative_cards_by(20_000)),
         _ => None,
     }
 }
@@ -118,6 +164,20 @@ fn same_tables(cards: &[Numbers], method: &Method) -> bool {
     })
 }
 
+/// Whether a walk along each of the cards works as many rows afresh as the paper says.
+fn same_fresh(cards: &[Numbers]) -> bool {
+    cards.iter().all(|card| {
+        let (mut count, mut fresh) = (0, 0);
+        let number = calls::walk_table(card, &mut [0; TABLE], &mut count, &mut fresh);
+        let reply = paper::WalkReply {
+            number,
+            count,
+            fresh,
+        };
+        reply == paper::walk_table(card, &mut [0; TABLE])
+    })
+}
+
 /// Whether both give the same answer and list, and the answer that is due.
 fn same_lists(name: &str, text: &[u8]) -> bool {
     let due = if name == "tail" {
@@ -133,12 +193,15 @@ fn same_lists(name: &str, text: &[u8]) -> bool {
 
 /// Compares the answers, then the times.
 fn compare() -> Result<(), String> {
-    println!("work        times  ours (us) plain (us)    ratio    lower    upper");
+    println!("work            times  ours (us) plain (us)    ratio    lower    upper");
     let (mut one, mut other) = (vec![0; TABLE], vec![0; TABLE]);
     for name in TABLES {
         let (cards, method) = cards(name).ok_or("no such cards")?;
         if !same_tables(&cards, &method) {
             return Err(format!("the tables differ: {name}"));
+        }
+        if name.starts_with("walk") && !same_fresh(&cards) {
+            return Err(format!("the rows worked afresh differ: {name}"));
         }
         timing::compare(
             name,

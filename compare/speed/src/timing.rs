@@ -52,7 +52,7 @@ pub fn compare(name: &str, ours: &mut dyn FnMut(), plain: &mut dyn FnMut()) {
         times.map(|mut runs| 1e6 * quantile(&mut runs, 2) / repetitions as f64);
     let [low, middle, high] = [1, 2, 3].map(|quarters| quantile(&mut ratios, quarters));
     println!(
-        "{name:<10} {repetitions:>6} {our_time:>10.2} {plain_time:>10.2} \
+        "{name:<14} {repetitions:>6} {our_time:>10.2} {plain_time:>10.2} \
          {middle:>8.3} {low:>8.3} {high:>8.3}"
     );
 }

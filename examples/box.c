@@ -5,6 +5,11 @@
  * is refused for its clothoid, its height or its grade, it says on standard error
  * within what limits that must be.
  *
+ * With --walk it fills the table of each curve by walking from row to row, and
+ * prints the same. Walking is for a box that shows the next row while it drives:
+ * that row is made from the one before by adding and carrying, and only a few rows
+ * of a curve are worked afresh.
+ *
  * With --write it prints no table, but writes the book to the file NEW, which
  * may be BOOK itself. Where a curve's NAME, the NUMBER of one of its body's
  * numbers, from 1, and a VALUE are given, that number is changed before: one of
@@ -93,13 +98,22 @@ static void print_curve(const int32_t *curve, uint32_t number, uint32_t rows, co
     }
 }
 
+/* Fills the table with one card's rows, walking or not: the rows are the same. */
+static uint32_t fill_table(const int32_t *card, int walking, uint32_t *rows)
+{
+    uint32_t fresh; /* how many of them were worked afresh, which is no part of the sheet */
+    if (walking) {
+        return pippinterm_walk_table(card, table, PIPPINTERM_ENOUGH_TABLE, rows, &fresh);
+    }
+    return pippinterm_fill_table(card, table, PIPPINTERM_ENOUGH_TABLE, rows);
+}
+
 /* Every card by a call of its own: each begins at the table's start. */
-static void print_one_by_one(uint32_t curves)
+static void print_one_by_one(uint32_t curves, int walking)
 {
     uint32_t number, rows, i;
     for (i = 0; i < curves; i++) {
-        number = pippinterm_fill_table(curve_at(i) + PIPPINTERM_CURVE_CARD, table,
-                                       PIPPINTERM_ENOUGH_TABLE, &rows);
+        number = fill_table(curve_at(i) + PIPPINTERM_CURVE_CARD, walking, &rows);
         print_curve(curve_at(i), number, rows, table);
     }
 }
@@ -151,7 +165,7 @@ static int read_book(size_t length, uint32_t *curves)
     return number == PIPPINTERM_ACCEPTED;
 }
 
-static int print_book(size_t length, int by_day)
+static int print_book(size_t length, int by_day, int walking)
 {
     uint32_t curves;
     if (!read_book(length, &curves)) {
@@ -160,7 +174,7 @@ static int print_book(size_t length, int by_day)
     if (by_day) {
         return print_day(curves);
     }
-    print_one_by_one(curves);
+    print_one_by_one(curves, walking);
     return 0;
 }
 
@@ -301,13 +315,16 @@ static int write_book(size_t length, const char *path, char **change)
 int main(int argc, char **argv)
 {
     int by_day = argc == 3 && strcmp(argv[1], "--day") == 0;
+    int walking = argc == 3 && strcmp(argv[1], "--walk") == 0;
     int writes = (argc == 4 || argc == 7) && strcmp(argv[1], "--write") == 0;
-    const char *path = argc == 2 ? argv[1] : by_day ? argv[2] : writes ? argv[3] : NULL;
+    const char *path = argc == 2 ? argv[1]
+                     : by_day || walking ? argv[2]
+                     : writes ? argv[3] : NULL;
     FILE *book = path == NULL ? NULL : fopen(path, "rb");
     size_t length;
     int ended;
     if (path == NULL) {
-        fprintf(stderr, "usage: box [--day] BOOK\n"
+        fprintf(stderr, "usage: box [--day | --walk] BOOK\n"
                         "       box --write NEW BOOK [NAME NUMBER VALUE]: reads BOOK, writes NEW\n");
         return 2;
     }
@@ -318,7 +335,7 @@ int main(int argc, char **argv)
     }
     fclose(book);
     ended = writes ? write_book(length, argv[2], argc == 7 ? argv + 4 : NULL)
-                   : print_book(length, by_day);
+                   : print_book(length, by_day, walking);
     if (fflush(stdout) != 0 || ferror(stdout)) {
         fprintf(stderr, "box: the tables cannot be written\n");
         return 2;

@@ -1,13 +1,17 @@
 -- Contents lines and bodies at places of a text: how they are read step by step.
 -- Assumes nothing.
-use Rattle.std.proofs.Common.{sym, cond, Bool, true, Option, ℕ, zero, suc, ◌+◌, ◌≡◌, refl, ap, ◌∙◌, false, List, eqb, eq-eqb, ne_eqb, Some, None, Ok, Err}
+use Rattle.std.proofs.Common.{sym, cond, Bool, true, Option, ℕ, zero, suc, ◌+◌, ◌≤◌, ◌<◌, ◌≡◌, refl, ap, ◌∙◌, false, List, eqb, eq-eqb, ne_eqb, Some, None, Ok, Err}
+use Rattle.decimal.proofs.Choices.{none_left}
 use Rattle.book.specs.Number.{number_at, Field}
 use Rattle.book.specs.Name.{name_at, twin_at}
 use Rattle.book.specs.Contents.{headed, heading_at, contents_line_of, contents_line, Heading, Line}
 use Rattle.book.specs.Body.{end_of, last_at, field_then, last_line, body_from, LastNumbers}
+use Rattle.book.specs.Book.{fault_number}
 use Rattle.book.specs.Reading.{key_at, read_at}
 use Rattle.book.specs.declared.text.ReadName.{ReadName}
+use Rattle.book.specs.declared.Fault.{Fault}
 use Rattle.book.specs.declared.Fault.TheVariants.{Body}
+use Rattle.book.proofs.Replies.{fault_some}
 
 -- a blank stands before another number of a body
 pub end_some : (k : ℕ) → (k ≡ 0 → ⊥) → end_of k ≡ 32
@@ -18,6 +22,10 @@ end_some (suc k) h = refl
 pub body_turn : (text : List ℕ) (at k m : ℕ) {f : Field} → k ≡ suc m → number_at text at 32 ≡ f → body_from k text at ≡ field_then f (body_from m text)
 unfolding body_from
 body_turn text at k m more q = ap (λ (i : ℕ). body_from i text at) more ∙ ap (λ (g : Field). field_then g (body_from m text)) q
+
+-- before the unit no number is left
+pub body_none : (text : List ℕ) (at k : ℕ) → k ≤ 0 → body_from k text at ≡ body_from 0 text at
+body_none text at = none_left (λ k. body_from k text at)
 
 -- from the unit on, by the last numbers
 pub body_last : (text : List ℕ) (at : ℕ) {l : LastNumbers} → last_at text at ≡ l → body_from 0 text at ≡ last_line l
@@ -66,6 +74,10 @@ pub heading_read_by : (text : List ℕ) (at : ℕ) {name : ReadName} {number : F
 heading_read_by text at {name} e q = heading_by text at e ∙ ap (headed name.size) q
 
 module _ (text earlier : List ℕ) (at due : ℕ) where
+  -- the fault of a contents line is no 0
+  pub contents_fault : {fault : Fault} → contents_line text earlier at due ≡ Err fault → 0 < fault_number fault
+  contents_fault {fault} e = fault_some fault
+
   module _ {size v next : ℕ} (e : heading_at text at ≡ Some (size, v, next)) where
     line_entry : contents_line text earlier at due ≡ contents_line_of text earlier at due (Some (size, v, next))
     unfolding contents_line

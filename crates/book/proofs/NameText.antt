@@ -30,6 +30,11 @@ module _ (text : List ℕ) where
   run_most (suc k) at =
       cond_case (λ (n : ℕ). n ≤ suc k) (is_name_byte (byte_at text at)) _ _ (λ t. omega (arith, run_most k (at + 1))) (λ t. omega arith)
 
+  -- so a name has at most eight
+  pub name_most : (at : ℕ) → name_at text at ≤ 8
+  unfolding name_at
+  name_most at = cond_case (λ (n : ℕ). n ≤ 8) (eqb (byte_at text (at + name_run 8 text at)) 32) _ _ (λ t. run_most 8 at) (λ t. omega arith)
+
   pub run_bytes : (k at : ℕ) → NameBytes (take (name_run k text at) (drop at text))
   unfolding name_run Each
   run_bytes zero at = tt

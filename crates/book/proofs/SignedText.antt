@@ -1,10 +1,11 @@
 -- A signed number is read at a place exactly when its text stands there; and a number that a blank ends is none that byte 10 ends.
 -- Assumes nothing.
-use Rattle.std.proofs.Common.{IsSome, ℕ, zero, suc, ◌+◌, ◌<◌, ◌≡◌, refl, sym, ap, subst, Bool, true, false, cond, List, [], ◌∷◌, arith, ltb, eqb, ℤ, pos, negsuc, eqb-true, eq-eqb, ne_eqb, Some, None}
+use Rattle.std.proofs.Common.{IsSome, ℕ, zero, suc, ◌+◌, ◌-◌, ◌<◌, ◌≡◌, refl, sym, ap, ◌∙◌, subst, Bool, true, false, cond, List, [], ◌∷◌, arith, ltb, eqb, ℤ, pos, negsuc, ◌-ℤ◌, w32, SFits, eqb-true, eq-eqb, ne_eqb, Some, None}
+use lib.IntN.{+ℤ_idl}
 use Rattle.decimal.specs.Decimal.{digit_of}
 use Rattle.decimal.proofs.Choices.{cond_case}
 use Rattle.book.specs.Number.{byte_at, digit_at, ended_at, digits_at, number_at, plain_field, minus_field, signed_at, Field, SignedField}
-use Rattle.book.specs.Printed.{IsSigned, number_text, signed_number_text}
+use Rattle.book.specs.Printed.{IsNumber, IsSigned, number_text, signed_number_text}
 use Rattle.book.specs.LineMeaning.{Stands}
 use Rattle.book.proofs.Places.{byte_inside, field-none}
 use Rattle.book.proofs.Standing.{byte_there, stands_one, stands_join, stands_back}
@@ -70,6 +71,21 @@ module _ (text : List ℕ) (at end : ℕ) where
       let e : number_at text (at + 1) end ≡ Some (suc n, next) =
       number_reads text (at + 1) end (suc n) next other h (stands_back (45 ∷ []) (number_text (suc n) end) s) in
       signed_minus m e
+
+-- a number other than 0 taken from 0 has a minus; y is what is read back of it
+module _ (v : ℕ) {y : ℤ} (e : y ≡ pos v) (some : v ≡ 0 → ⊥) where
+  minus_below : (n : ℕ) → v ≡ suc n → pos 0 -ℤ y ≡ negsuc n
+  minus_below n s = ap (λ (z : ℤ). pos 0 -ℤ z) (e ∙ ap pos s) ∙ +ℤ_idl (negsuc n)
+
+  pub minus_fits : IsNumber v → SFits w32 (pos 0 -ℤ y)
+  minus_fits small =
+      let s : v ≡ suc (v - 1) = omega arith in
+      rw (minus_below (v - 1) s) (record { sfits = omega arith })
+
+  pub minus_is : (next : ℕ) → Some (pos 0 -ℤ y, next) ≡ minus_field (Some (v, next))
+  minus_is next =
+      let s : v ≡ suc (v - 1) = omega arith in
+      ap (λ (z : ℤ). Some (z, next)) (minus_below (v - 1) s) ∙ ap (λ (m : ℕ). minus_field (Some (m, next))) (sym s)
 
 -- where a blank ends a number, byte 10 does not
 both : (b : Bool) (x y u v : Field) → (IsSome x → u ≡ None) → (IsSome y → v ≡ None) → IsSome (cond b x y) → cond b u v ≡ None

@@ -14,7 +14,10 @@ byte_there text at b rest e = ap (byte_at text) (sym (add-zero at)) ∙ sym (get
 pub rest_there : (text : List ℕ) (at : ℕ) (xs rest : List ℕ) → drop at text ≡ xs ++ rest → drop (at + length xs) text ≡ rest
 rest_there text at xs rest e = sym (drop-drop (length xs) at text) ∙ ap (drop (length xs)) e ∙ drop-append_seam xs rest
 
--- a byte inside the text stands at its place
+-- no bytes stand anywhere, and a byte inside the text stands at its place
+pub stands_none : (text : List ℕ) (at : ℕ) → Stands text at [] at
+stands_none text at = record { there = refl; after = omega arith }
+
 pub stands_one : (text : List ℕ) (at b : ℕ) → at < length text → byte_at text at ≡ b → Stands text at (b ∷ []) (at + 1)
 stands_one text at b h e =
     record { there = drop-cons text at 0 h ∙ ap (λ (x : ℕ). x ∷ drop (suc at) text) e ∙ rw add-one; after = refl }
@@ -61,4 +64,9 @@ module _ (text : List ℕ) (at : ℕ) where
   -- the place after bytes of the text lies in it or at its end
   pub stands_in : (bytes : List ℕ) (next : ℕ) → Stands text at bytes next → at ≤ length text → next ≤ length text
   stands_in bytes next s h =
+      omega (arith, s.after, sym (length-drop at text) ∙ ap length s.there ∙ length-append bytes (drop next text), length-drop next text)
+
+  -- so does the place after some bytes that stand there, wherever that is
+  pub stands_some : (bytes : List ℕ) (next : ℕ) → Stands text at bytes next → 0 < length bytes → next ≤ length text
+  stands_some bytes next s h =
       omega (arith, s.after, sym (length-drop at text) ∙ ap length s.there ∙ length-append bytes (drop next text), length-drop next text)

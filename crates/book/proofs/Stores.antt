@@ -3,6 +3,7 @@
 use Rattle.std.proofs.Common.{append_assoc, length-drop, drop-drop, ℕ, zero, suc, ◌+◌, ◌-◌, ◌*◌, ◌≤◌, ◌<◌, ◌≡◌, refl, sym, ap, ◌∙◌, List, ◌++◌, arith, add-one, ℤ, pos, length, get_or, take, drop, set, length-append, drop_of_length-le, drop-cons, take_at, length-take-le, Some, None}
 use borrow.Rule.Slice.PartMut.{put_mid}
 use lib.Seq.{sets, sets-eq}
+use Rattle.decimal.proofs.Choices.{none_left}
 use Rattle.decimal.proofs.Stores.{sets_append}
 use Rattle.card_list.specs.List.{curve_width}
 use Rattle.book.specs.Number.{Field, SignedField, number_at, signed_at, field_next}
@@ -27,6 +28,9 @@ unfolding numbers_at
 stores_turn text at k m l out more e = ap (λ (i : ℕ). sets l out (numbers_at i text at)) more ∙ rw (e, add-one out)
 
 -- the four from the unit on
+pub stores_none : (text : List ℕ) (at : ℕ) (l : List ℤ) (out k : ℕ) → k ≤ 0 → sets l out (numbers_at k text at) ≡ sets l out (numbers_at 0 text at)
+stores_none text at l out = none_left (λ k. sets l out (numbers_at k text at))
+
 pub stores_last : (text : List ℕ) (at : ℕ) (l : List ℤ) (out : ℕ) {numbers : List ℤ} {next : ℕ} → last_at text at ≡ Some (numbers, next)
     → sets l out (numbers_at 0 text at) ≡ sets l out numbers
 unfolding numbers_at

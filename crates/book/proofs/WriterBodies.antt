@@ -1,17 +1,20 @@
 -- The numbers of a card and its body: what the writer's tests of them say, which of them a body shows, and the bytes of each.
 -- Assumes nothing.
 use Prim.Native.Nat.{ℕ, zero, suc, ◌+◌, ◌-◌, ◌≤◌, ◌<◌}
-use mathlib.Core.Path.{◌≡◌, refl, sym, ap, ◌∙◌, subst}
-use mathlib.Core.Bool.{Bool, true, false, cond, ◌||◌, true≢false, false≢true}
+use mathlib.Core.Path.{◌≡◌, refl, sym, ap, ap₂, ◌∙◌, subst}
+use mathlib.Core.Bool.{Bool, true, false, cond, not, ◌||◌, true≢false, false≢true}
 use mathlib.Core.List.{List, [], ◌∷◌, ◌++◌}
 use native.Mathlib.Omega.{arith}
 use native.Mathlib.Numerals.{add-one}
-use lib.Dec.{ltb}
+use lib.Dec.{ltb, eqb, leb-suc-suc}
 use lib.IntN.{ℤ, pos, negsuc, nat_abs}
 use lib.Signed.{lt_z}
 use lib.ListN.{length, take, drop, length-append, length-drop, take-append-drop, drop_of_length-le, get_or-append}
 use lib.Seq.{drop-cons, get_or-take, get_or-append-add, length-take-le}
-use borrow.Author.Tests.{ltb-true, ltb-false, le-ltb, not-false}
+use borrow.Author.Tests.{ltb-true, ltb-false, lt-ltb, le-ltb, eqb-true, eq-eqb, ne_eqb, not-false}
+use mir.Syntax.{w32}
+use mir.Val.{SFits, of_z, to_z}
+use mir.Facts.{sfits_lit, to_z-of_z}
 use Rattle.decimal.specs.Decimal.{Each, digits_text, count_text, signed_text}
 use Rattle.decimal.proofs.Digits.{text_wider, digits_most}
 use Rattle.decimal.proofs.Choices.{cond_case, or-none, neither_met, second_met, both_met}
@@ -20,13 +23,23 @@ use Rattle.card_list.specs.List.{number_of}
 use Rattle.book.specs.Body.{card_numbers, end_of}
 use Rattle.book.specs.Printed.{IsNumber, IsCount, IsSigned, IsDatum, IsBody, number_text, signed_number_text, numbers_text, eight_of, mark_of, height_of, grade_of, is_nought, shown_numbers, body_text}
 use Rattle.book.specs.Writing.{has_long, wrong_mark, is_below, has_below, beside_nought, is_unfit}
+use Rattle.book.proofs.Keys.{one_test}
 use Rattle.std.proofs.lemmas.List.Recursion.{same_from_clauses}
 use Rattle.std.specs.List.{list_any}
 use Rattle.std.specs.Prelude.{None, Some}
 use Rattle.book.specs.WriterSteps.{body_size}
 use mathlib.Core.Logic.{◌⊎◌, inl, inr}
 
--- ---- tests of a signed number
+-- ---- tests of a signed number: y is what is read back of z
+-- more than seven digits, above nought or below
+pub long_above : {y z : ℤ} → y ≡ z → lt_z (pos 9999999) y ≡ true → true ≡ nat_abs z above 9999999
+long_above {y = pos n} e t = sym t ∙ ap (λ (x : ℤ). nat_abs x above 9999999) e
+long_above {y = negsuc n} e t = absurd (false≢true t)
+
+pub long_below : {y z : ℤ} → y ≡ z → lt_z (pos 9999999) y ≡ false → lt_z y (negsuc 9999998) ≡ nat_abs z above 9999999
+long_below {y = pos n} e t = sym t ∙ ap (λ (x : ℤ). nat_abs x above 9999999) e
+long_below {y = negsuc n} e t = sym (leb-suc-suc 9999999 n) ∙ ap (λ (x : ℤ). nat_abs x above 9999999) e
+
 -- below nought
 pub below_is : (z : ℤ) → lt_z z (pos 0) ≡ is_below z
 below_is (pos n) = le-ltb n 0 (omega arith)
@@ -43,9 +56,34 @@ not_nought (pos zero) h = absurd (h refl)
 not_nought (pos (suc n)) h = refl
 not_nought (negsuc n) h = refl
 
--- mark, height and grade
+same_bits : {a b : ℤ} → SFits w32 a → SFits w32 b → of_z w32 a ≡ of_z w32 b → a ≡ b
+same_bits fa fb e = sym (to_z-of_z fa) ∙ ap (to_z w32) e ∙ to_z-of_z fb
+
+nought_bits : {z : ℤ} → SFits w32 z → eqb (of_z w32 z) 0 ≡ is_nought z
+nought_bits {z} f =
+    one_test _ _
+    (λ t. let e : z ≡ pos 0 = same_bits f (sfits_lit tt) (eqb-true (of_z w32 z) 0 t) in ap is_nought e)
+    (λ t. eq-eqb _ _ (ap (of_z w32) (nought_is z t)))
+
+-- mark, height and grade: a height beside mark 0, a grade beside it or none, and another mark
 abbrev pub wrong_datum : (mark height grade : ℤ) → Bool
 wrong_datum mark height grade = wrong_mark mark || beside_nought mark height grade
+
+module _ (mark height grade : ℤ) where
+  pub datum_height : mark ≡ pos 0 → (height ≡ pos 0 → ⊥) → true ≡ wrong_datum mark height grade
+  datum_height e h = sym (ap (λ (m : ℤ). wrong_mark m || beside_nought m height grade) e ∙ rw (not_nought height h))
+
+  pub datum_grade : SFits w32 grade → mark ≡ pos 0 → height ≡ pos 0 → not (eqb (of_z w32 grade) 0) ≡ wrong_datum mark height grade
+  datum_grade f e h = ap not (nought_bits f) ∙ sym (ap₂ (λ (m x : ℤ). wrong_mark m || beside_nought m x grade) e h)
+
+pub datum_mark : (mark height grade : ℤ) → SFits w32 mark → (mark ≡ pos 0 → ⊥) → not (eqb (of_z w32 mark) 1) ≡ wrong_datum mark height grade
+datum_mark (pos zero) height grade f h = absurd (h refl)
+datum_mark (pos (suc zero)) height grade f h = refl
+datum_mark (pos (suc (suc n))) height grade f h = rw (ne_eqb (suc (suc n)) 1 (λ e. omega arith), lt-ltb 1 (suc (suc n)) (omega arith))
+datum_mark (negsuc n) height grade f h = ap not (ne_eqb _ _ (λ e. other (same_bits f (sfits_lit tt) e)))
+  where
+    other : negsuc n ≡ pos 1 → ⊥
+    other e = true≢false (ap is_below e)
 
 -- one of several numbers is too long, or below nought
 pub any_long : (numbers : List ℤ) → list_any (λ z. nat_abs z above 9999999) numbers ≡ has_long numbers
@@ -110,6 +148,18 @@ unfolding signed_text
 signed_short (pos n) h = omega (arith, ap length (number_digits n h), digits_most 7 n)
 signed_short (negsuc n) h = omega (arith, ap length (number_digits (suc n) h), digits_most 7 (suc n))
 
+-- a number has bytes, and so have numbers
+signed_some : (z : ℤ) (end : ℕ) → 1 ≤ length (signed_number_text z end)
+unfolding signed_number_text
+signed_some (pos n) end = omega (arith, length-append (digits_text 7 n) (end ∷ []))
+signed_some (negsuc n) end = omega arith
+
+numbers_some : (numbers : List ℤ) → 1 ≤ length numbers → 1 ≤ length (numbers_text numbers)
+unfolding numbers_text
+numbers_some [] h = absurd (omega arith)
+numbers_some (z ∷ numbers) h =
+    omega (arith, length-append (signed_number_text z (end_of (length numbers))) (numbers_text numbers), signed_some z (end_of (length numbers)))
+
 -- ---- the numbers that a body shows
 pub body_shows : (numbers : List ℤ) → body_text numbers ≡ numbers_text (shown_numbers numbers)
 unfolding body_text
@@ -122,6 +172,10 @@ module _ (numbers : List ℤ) (eleven : length numbers ≡ card_numbers) where
   eight_long : length (eight_of numbers) ≡ 8
   eight_long = length-take-le 8 numbers (omega (arith, eleven))
 
+  shown_least : 8 ≤ length shown
+  unfolding shown_numbers
+  shown_least = omega (arith, length-append (eight_of numbers) (cond (is_nought (mark_of numbers)) [] (height_of numbers ∷ grade_of numbers ∷ [])), eight_long)
+
   -- the eight, or ten
   module _ (mark : mark_of numbers ≡ pos 0) where
     pub shown_relative : 8 ≡ length shown
@@ -133,6 +187,10 @@ module _ (numbers : List ℤ) (eleven : length numbers ≡ card_numbers) where
     unfolding shown_numbers
     shown_absolute =
         sym (rw (not_nought (mark_of numbers) mark) (length-append (eight_of numbers) (height_of numbers ∷ grade_of numbers ∷ []) ∙ omega (arith, eight_long)))
+
+  -- so a body has bytes
+  pub body_some : 1 ≤ length (body_text numbers)
+  body_some = omega (arith, ap length (body_shows numbers), numbers_some shown (omega (arith, shown_least)))
 
   -- one of the eight
   pub shown_front : (i : ℕ) → i < 8 → number_of numbers i ≡ number_of shown i

@@ -1,11 +1,12 @@
 -- A text stored part by part.
 -- Assumes nothing.
-use Prim.Native.Nat.{ℕ, suc, ◌+◌, ◌-◌}
+use Prim.Native.Nat.{ℕ, suc, ◌+◌, ◌-◌, ◌≤◌, ◌<◌}
 use mathlib.Core.Path.{◌≡◌, ap, ◌∙◌}
 use mathlib.Core.List.{List, [], ◌∷◌, ◌++◌, append-nil}
 use native.Mathlib.Omega.{arith}
-use lib.ListN.{length, set, drop_of_length-le}
-use lib.Seq.{sets, length-sets, take_all}
+use native.Mathlib.Numerals.{add-one}
+use lib.ListN.{length, drop, set, get_or, drop_of_length-le}
+use lib.Seq.{sets, drop-cons, length-sets, take_all}
 use borrow.Rule.Slice.PartMut.{put_mid, mid_of}
 use Rattle.decimal.specs.Places.{Wrote}
 use Rattle.decimal.specs.declared.Place.{Place}
@@ -16,6 +17,16 @@ sets_append [] ys l i = let z : i ≡ i + 0 = omega arith in ap (λ (k : ℕ). s
 sets_append (x ∷ xs) ys l i =
     let z : suc i + length xs ≡ i + suc (length xs) = omega arith in
     sets_append xs ys (set l i x) (suc i) ∙ ap (λ (k : ℕ). sets (sets (set l i x) (suc i) xs) k ys) z
+
+-- one byte stored, and no byte left
+pub sets_turn : (bytes l : List ℕ) (at i : ℕ) → i < length bytes
+    → sets l (at + i) (drop i bytes) ≡ sets (set l (at + i) (get_or bytes i 0)) (at + (i + 1)) (drop (i + 1) bytes)
+sets_turn bytes l at i h =
+    let p : at + suc i ≡ suc (at + i) = omega arith in
+    ap (sets l (at + i)) (drop-cons bytes i 0 h) ∙ rw (add-one i, p)
+
+pub sets_none : (bytes l : List ℕ) (at i : ℕ) → length bytes ≤ i → sets l (at + i) (drop i bytes) ≡ l
+sets_none bytes l at i h = ap (sets l (at + i)) (drop_of_length-le bytes h)
 
 -- a text that starts with a part, stored: the part, and the rest behind it
 pub stores_next : (part rest l : List ℕ) (at : ℕ) {text stored : List ℕ} {place : ℕ}

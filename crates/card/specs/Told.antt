@@ -1,7 +1,7 @@
 -- Document 01, "Where an answer is an enum, the promises use a definition. That definition gives this paper's number and values for each of
 -- the enum's cases."
 -- Assumes nothing.
-use Rattle.std.specs.Prelude.{ℕ, Result, Ok, Err}
+use Rattle.std.specs.Prelude.{◌≡◌, ℕ, Result, Ok, Err}
 use Rattle.card.specs.declared.reasons.Refusal.{Refusal}
 use Rattle.card.specs.declared.reasons.Refusal.TheVariants.{Profile, Terrain, Radius, Clothoid, FullSlope, Widening, AddedSlope, Step, Unit, ShortTable, Height, Grade, Method, FirstStage, WideningPlace}
 use Rattle.card.specs.Table.{Reply}
@@ -23,6 +23,10 @@ refusal_number Grade = 35
 refusal_number Method = 36
 refusal_number FirstStage = 37
 refusal_number WideningPlace = 38
+
+-- THEOREM (proofs/Told.antt): no reason has the number 7, that of the narrow shoulder, which is no longer given
+abbrev pub NotSevenTheorem : Type 0
+NotSevenTheorem = (e : Refusal) → ¬ (refusal_number e ≡ 7)
 
 -- the number of an answer: 0 where nothing is refused, else that of the refusal
 abbrev pub number_told : {A E : Type 0} → (E → ℕ) → Result A E → ℕ

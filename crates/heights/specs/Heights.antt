@@ -20,6 +20,11 @@ pub record AxisIs (y : Exact) (u : ℕ) (a : Axis) : Type 0 where
   pub is : height_of a ≈ y
   pub unit : a.unit ≡ u
 
+-- it is not split: it has no whole units, and all of it is rest
+pub record AllRest (rest : ℕ) (a : Axis) : Type 0 where
+  pub none_whole : a.count ≡ pos 0
+  pub all : a.rest ≡ rest
+
 -- it stands at nought, in whole millimetres: so does one that cannot be held
 pub record AtNought (a : Axis) : Type 0 where
   pub count : a.count ≡ pos 0

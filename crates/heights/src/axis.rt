@@ -27,7 +27,7 @@ impl Axis {
     ghost use Rattle.exact.specs.Exact.{whole, ratio, ◌⊕◌};
     ghost use Rattle.card.specs.Rows.{in_units};
     ghost use Rattle.card.specs.Datum.{surveyed_axis};
-    ghost use Rattle.heights.specs.Heights.{count_above, height_of, AxisIs, AtNought, Stays, Climbs};
+    ghost use Rattle.heights.specs.Heights.{count_above, height_of, AxisIs, AllRest, AtNought, Stays, Climbs};
 
     // The axis that stands for one that cannot be held: at nought, in whole millimetres.
     fn at_nought() -> Self
@@ -43,6 +43,7 @@ impl Axis {
     // The axis of a relative card, which stays: all of it is rest, so that nothing is added to a height after it is rounded.
     pub fn still(rest: u64, unit: u64) -> Self
         ensures within { Stays rest unit → AxisIs (whole rest) unit result }
+        ensures all_rest { Stays rest unit → AllRest rest result }
         ensures beyond { ¬ Stays rest unit → AtNought result }
     {
         if rest > MOST_REST || !(1..=10).contains(&unit) {

@@ -55,6 +55,11 @@ impl Book {
         }
     }
 
+    // The book has no byte from here on.
+    pub(crate) fn clear(&mut self) {
+        self.size = 0;
+    }
+
     pub(crate) fn text(&self) -> &[u8] {
         &self.bytes[..self.size]
     }

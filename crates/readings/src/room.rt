@@ -6,18 +6,20 @@ use std::ops::Range;
 // What stands at the first place before a call. The mark of each further place is one more, so that no row and no curve of a book has one.
 const FIRST_MARK: i32 = 1000000000;
 
-// Numbers of which the first are lent to a call. No room has more than 2128 of them. All of them are looked at afterwards, so it is no slice alone.
+// N numbers, of which the first are lent to a call. No room has more than 2128 of them. All of them are looked at afterwards, so it is no slice alone,
+// and their count is in the type, so that a loop over them costs what it does over an array.
 #[derive(Drop)]
-pub(crate) struct Room<'a> {
+pub(crate) struct Room<'a, const N: usize> {
     numbers: &'a mut [i32],
     lent: usize,
+    ghost whole: { length numbers.now ≡ N },
     ghost within: { lent ≤ length numbers.now },
     ghost small: { length numbers.now ≤ 2128 },
 }
 
-impl<'a> Room<'a> {
+impl<'a, const N: usize> Room<'a, N> {
     // All of the numbers are lent at first.
-    pub(crate) fn new(numbers: &'a mut [i32]) -> Self
+    pub(crate) fn new(numbers: &'a mut [i32; N]) -> Self
         requires { length numbers.old ≤ 2128 }
     {
         let lent = numbers.len();
@@ -59,9 +61,12 @@ impl<'a> Room<'a> {
 
     // The first place from which on every number is its mark.
     pub(crate) fn untouched_from(&self) -> u32 {
-        let mut marked = self.numbers.iter().zip(self.marks());
-        let touched = marked.rposition(|(number, mark)| *number != mark);
-        touched.map_or(0, |last| last as u32 + 1)
+        for last in (0..N).rev() {
+            if self.numbers[last] != FIRST_MARK + last as i32 {
+                return last as u32 + 1;
+            }
+        }
+        0
     }
 
     // The numbers of a row, rows counted from 0. A row past the last of so many has none.

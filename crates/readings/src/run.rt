@@ -5,6 +5,7 @@ use crate::books::Book;
 use crate::room::Room;
 use crate::tally::Tally;
 use crate::text::{Figure, read_figures, read_first};
+use crate::{LIST_ROOM, TABLE_ROOM};
 use book::BookRefusal;
 use card::{Card, Datum, Refusal, in_numbers};
 use card_list::CURVE_WIDTH;
@@ -25,13 +26,13 @@ struct Group<'a> {
 #[derive(Drop)]
 pub(crate) struct Run<'a> {
     group: Option<Group<'a>>,
-    table: Room<'a>,
-    list: Room<'a>,
+    table: Room<'a, TABLE_ROOM>,
+    list: Room<'a, LIST_ROOM>,
     pub(crate) wrong_lines: u32,
 }
 
 // `t LENGTH` and `l LENGTH`: how many numbers of a room are lent from here on.
-fn lend(room: &mut Room, text: &[u8]) -> Option<()> {
+fn lend<const N: usize>(room: &mut Room<N>, text: &[u8]) -> Option<()> {
     let [lent] = read_figures::<1>(text)?;
     room.lend(lent?.whole()?)
 }
@@ -87,21 +88,26 @@ impl<'a> Group<'a> {
     }
 
     // Fills the table for a card.
-    fn run_card(&mut self, card: Card, table: &mut Room) {
+    fn run_card(&mut self, card: Card, table: &mut Room<TABLE_ROOM>) {
         let reply = table.run(|numbers| runoff::fill_table(card, numbers));
         self.reply = Some(reply);
         self.tally.count_card();
     }
 
     // `c` and a card's eight numbers, or ten: fills the table.
-    fn try_card(&mut self, text: &[u8], table: &mut Room) -> Option<()> {
+    fn try_card(&mut self, text: &[u8], table: &mut Room<TABLE_ROOM>) -> Option<()> {
         let card = read_card(text)?;
         self.run_card(card, table);
         Some(())
     }
 
     // `h CURVE`: fills the table for the card of a curve in the list, curves counted from 0. No curve is past the last that was read.
-    fn try_curve(&mut self, text: &[u8], table: &mut Room, list: &Room) -> Option<()> {
+    fn try_curve(
+        &mut self,
+        text: &[u8],
+        table: &mut Room<TABLE_ROOM>,
+        list: &Room<LIST_ROOM>,
+    ) -> Option<()> {
         let [curve] = read_figures::<1>(text)?;
         let curve = curve?.whole()?;
         if curve >= self.book_reply?.unwrap_or(0) {
@@ -129,7 +135,7 @@ impl<'a> Group<'a> {
     }
 
     // `n NUMBER COUNT PLACE`: the reply's two numbers, and the first place from which on the table is untouched.
-    fn compare_reply(&mut self, text: &[u8], table: &Room) -> Option<()> {
+    fn compare_reply(&mut self, text: &[u8], table: &Room<TABLE_ROOM>) -> Option<()> {
         let figures: [Option<Figure>; 3] = read_figures(text)?;
         let (number, count) = in_numbers(self.reply?);
         self.compare(&figures, &[number, count, table.untouched_from()]);
@@ -137,7 +143,7 @@ impl<'a> Group<'a> {
     }
 
     // `r ROW` and a row's seven numbers, rows counted from 0. A row past the last that the call counts has none.
-    fn compare_row(&mut self, text: &[u8], table: &Room) -> Option<()> {
+    fn compare_row(&mut self, text: &[u8], table: &Room<TABLE_ROOM>) -> Option<()> {
         let ([row], rest) = read_first::<1>(text)?;
         let figures: [Option<Figure>; ROW_WIDTH] = read_figures(rest)?;
         let row = row?.whole()?;
@@ -149,10 +155,9 @@ impl<'a> Group<'a> {
 
     // `b TEXT`: begins a book, which has no byte where the line is not understood or has too many.
     fn begin_book(&mut self, text: &[u8]) -> Option<()> {
-        let mut book = Book::new();
-        let appended = book.append_text(text);
-        self.book = Some(book);
-        appended
+        let book = self.book.get_or_insert_with(Book::new);
+        book.clear();
+        book.append_text(text)
     }
 
     // Reads a text into a list of marks. The reply's three numbers, and the first place from which on the list is untouched, are compared
@@ -161,7 +166,7 @@ impl<'a> Group<'a> {
         &mut self,
         size: u32,
         figures: [Option<Figure>; 4],
-        list: &mut Room,
+        list: &mut Room<LIST_ROOM>,
     ) -> Option<()> {
         let text = self.book.as_ref()?.text().get(..size as usize)?;
         let reply = list.run(|numbers| book::read_book(text, numbers));
@@ -173,21 +178,21 @@ impl<'a> Group<'a> {
     }
 
     // `o NUMBER COUNT LINE PLACE`: reads the book.
-    fn read_whole(&mut self, text: &[u8], list: &mut Room) -> Option<()> {
+    fn read_whole(&mut self, text: &[u8], list: &mut Room<LIST_ROOM>) -> Option<()> {
         let figures = read_figures(text)?;
         let size = self.book.as_ref()?.size();
         self.read_book(size, figures, list)
     }
 
     // `k BYTES NUMBER COUNT LINE PLACE`: reads the book's first bytes. A book has no more bytes than are written of it.
-    fn read_start(&mut self, text: &[u8], list: &mut Room) -> Option<()> {
+    fn read_start(&mut self, text: &[u8], list: &mut Room<LIST_ROOM>) -> Option<()> {
         let ([size], rest) = read_first::<1>(text)?;
         let figures = read_figures(rest)?;
         self.read_book(size?.whole()?, figures, list)
     }
 
     // `e CURVE` and a curve's thirteen numbers in the list, curves counted from 0. A curve past the last that was read has none.
-    fn compare_curve(&mut self, text: &[u8], list: &Room) -> Option<()> {
+    fn compare_curve(&mut self, text: &[u8], list: &Room<LIST_ROOM>) -> Option<()> {
         let ([curve], rest) = read_first::<1>(text)?;
         let figures: [Option<Figure>; CURVE_WIDTH] = read_figures(rest)?;
         let curve = curve?.whole()?;
@@ -207,7 +212,7 @@ fn group_name(line: &[u8]) -> Option<&[u8]> {
 
 impl<'a> Run<'a> {
     // Before the first group nothing is run.
-    pub(crate) fn new(table: Room<'a>, list: Room<'a>) -> Self {
+    pub(crate) fn new(table: Room<'a, TABLE_ROOM>, list: Room<'a, LIST_ROOM>) -> Self {
         Run {
             group: None,
             table,

@@ -44,18 +44,18 @@ fn read_number(piece: &[u8]) -> Option<Figure> {
 }
 
 // The figure that a text begins with, a blank before it, and the text that follows. Where the paper prints no figure the text has an `x`,
-// and nothing is compared.
+// and nothing is compared; what stands right behind it is left to the next read, which wants a blank or the end.
 pub(crate) fn read_figure(text: &[u8]) -> Option<(Option<Figure>, &[u8])>
     ensures { IfSome result (λ read. length read.1.now < length text.now) }
 {
     let [b' ', text @ ..] = text else {
         return None;
     };
-    let end = text.iter().position(|byte| *byte == b' ');
-    let (piece, rest) = text.split_at(end.unwrap_or(text.len()));
-    if let b"x" = piece {
+    if let [b'x', rest @ ..] = text {
         return Some((None, rest));
     }
+    let end = text.iter().position(|byte| *byte == b' ');
+    let (piece, rest) = text.split_at(end.unwrap_or(text.len()));
     let figure = read_number(piece)?;
     Some((Some(figure), rest))
 }

@@ -39,7 +39,7 @@ extern "C" {
    and as text with points between; CHANGES.md says what each version brought. */
 #define PIPPINTERM_VERSION_MAJOR 0
 #define PIPPINTERM_VERSION_MINOR 8
-#define PIPPINTERM_VERSION_PATCH 0
+#define PIPPINTERM_VERSION_PATCH 1
 #define PIPPINTERM_VERSION_JOINED_(major, minor, patch) #major "." #minor "." #patch
 #define PIPPINTERM_VERSION_JOINED(major, minor, patch) \
     PIPPINTERM_VERSION_JOINED_(major, minor, patch)

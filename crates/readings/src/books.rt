@@ -1,5 +1,5 @@
 // The book that the text is writing: its bytes, and how a line writes them.
-ghost use Rattle.std.specs.Prelude.{◌≤◌, ◌<◌, length, IfSome};
+ghost use Rattle.std.specs.Prelude.{◌≡◌, ◌≤◌, ◌<◌, length, IfSome};
 
 use crate::text::{read_figure, read_size};
 
@@ -56,7 +56,9 @@ impl Book {
     }
 
     // The book has no byte from here on.
-    pub(crate) fn clear(&mut self) {
+    pub(crate) fn clear(&mut self)
+        ensures { self.new.size ≡ 0 }
+    {
         self.size = 0;
     }
 

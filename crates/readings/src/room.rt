@@ -6,6 +6,14 @@ use std::ops::Range;
 // What stands at the first place before a call. The mark of each further place is one more, so that no row and no curve of a book has one.
 const FIRST_MARK: i32 = 1000000000;
 
+// The mark of a place.
+fn mark(place: usize) -> i32
+    requires { place ≤ 2128 }
+    ensures { result ≡ pos (1000000000 + place) }
+{
+    FIRST_MARK + place as i32
+}
+
 // N numbers, of which the first are lent to a call. No room has more than 2128 of them. All of them are looked at afterwards, so it is no slice alone,
 // and their count is in the type, so that a loop over them costs what it does over an array.
 #[derive(Drop)]
@@ -41,7 +49,7 @@ impl<'a, const N: usize> Room<'a, N> {
         ensures start { result.start ≡ pos 1000000000 }
         ensures end { result.end ≡ pos (1000000000 + length self.now.numbers.now) }
     {
-        FIRST_MARK..FIRST_MARK + self.numbers.len() as i32
+        mark(0)..mark(self.numbers.len())
     }
 
     // Puts its mark at each place of the room, and runs a call over the first numbers.
@@ -62,7 +70,7 @@ impl<'a, const N: usize> Room<'a, N> {
     // The first place from which on every number is its mark.
     pub(crate) fn untouched_from(&self) -> u32 {
         for last in (0..N).rev() {
-            if self.numbers[last] != FIRST_MARK + last as i32 {
+            if self.numbers[last] != mark(last) {
                 return last as u32 + 1;
             }
         }

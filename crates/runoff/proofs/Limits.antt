@@ -1,7 +1,7 @@
 -- What the runoff of an accepted card keeps to.
 -- Assumes nothing.
 use mathlib.Core.Path.{◌≡◌, refl}
-use Prim.Native.Nat.{◌≤◌}
+use Prim.Native.Nat.{◌*◌, ◌≤◌}
 use native.Mathlib.Nat.{mul-le-mul}
 use native.Mathlib.Omega.{arith}
 use Rattle.card.specs.declared.Card.{Card}
@@ -37,6 +37,14 @@ module _ (card : Card) (passes : refusal card ≡ 0) where
         stages = refl;
       }
 
--- the axis stays no higher than an axis can be held
+-- the height of the axis is the sum of these two
+module _ (r : Runoff) (z : Limits r) where
+  pub shoulder_rise : r.shoulder_width * r.shoulder_slope ≤ 3750 * 60
+  shoulder_rise = mul-le-mul z.shoulder_most z.side_most
+
+  pub crown_rise : r.half_width * r.crown_slope ≤ 3750 * 30
+  crown_rise = mul-le-mul z.half_most z.crown_most
+
+-- so it stays no higher than an axis can be held
 pub axis_most : {r : Runoff} → Limits r → axis_height (section_in r) ≤ 337500
-axis_most z = omega (arith, mul-le-mul z.shoulder_most z.side_most, mul-le-mul z.half_most z.crown_most)
+axis_most {r} z = omega (arith, shoulder_rise r z, crown_rise r z)
